@@ -76,7 +76,7 @@ carryless-large (suc n) a b k pos h lo hi =
     (λ (e : b / 2 ≡ 0).
     let bit : b % 2 ≡ 1 = omega arith in
     let is : bitXor (b % 2 * a) (carryless n (a * 2) (b / 2)) ≡ a =
-        ap₂ bitXor (ap (λ (x : ℕ). x * a) bit ∙ one-mul a) (ap (carryless n (a * 2)) e ∙ carryless-none n (a * 2)) ∙ xor-zero-r a in
+    ap₂ bitXor (ap (λ (x : ℕ). x * a) bit ∙ one-mul a) (ap (carryless n (a * 2)) e ∙ carryless-none n (a * 2)) ∙ xor-zero-r a in
     subst (λ (x : ℕ). 2 ^ k ≤ x) (sym is) lo)
     (λ (ne : b / 2 ≡ 0 → ⊥).
     let double = pow-suc 2 k in
@@ -122,7 +122,7 @@ shift-differs a a′ d h e =
     ∙ ap (bitXor (multiple (d * 2))) (xor-comm (timesZ a) (bit * 131081))
     ∙ sym (xor-assoc (multiple (d * 2)) (bit * 131081) (timesZ a))
     ∙ ap (λ (x : ℕ). bitXor x (timesZ a))
-        (ap (bitXor (multiple (d * 2))) (multiple-bit bit (mod-lt (a / 65536) (lit< tt))) ∙ sym (carryless-right 17 131081 (d * 2) bit))
+    (ap (bitXor (multiple (d * 2))) (multiple-bit bit (mod-lt (a / 65536) (lit< tt))) ∙ sym (carryless-right 17 131081 (d * 2) bit))
 
 -- the two sums of shifts differ by a multiple
 differs : (n a a′ b d k : ℕ) → n + k ≤ 17 → d < 2 ^ k → a′ ≡ bitXor (multiple d) a

@@ -61,20 +61,20 @@ pub prime-by : (q b : ℕ) → T (undivided q b) → 1 < q → q < suc (suc b) *
 prime-by q b h above bound = record {
   above-one = above;
   no-divisor = λ d lo hi e.
-    elim (decLe d (suc b)) [
-      | yes k ↦ let f = leaves-rest q b h d lo k in omega arith
-      | no k ↦
-          let whole : q ≡ q / d * d = omega (arith, div-add-mod' q d) in
-          let small : q / d ≤ suc b = elim (decLe (q / d) (suc b)) [
-            | yes s ↦ s
-            | no s ↦ let l : suc (suc b) ≤ q / d = omega (arith, s) in
-                let l2 : suc (suc b) ≤ d = omega (arith, k) in
-                let m = mul-le-mul l l2 in absurd (omega arith)
-          ] in
-          let f = leaves-rest q b h (q / d) (cofactor d (q / d) hi whole) small in
-          let z : q % (q / d) ≡ 0 = ap (λ (x : ℕ). x % (q / d)) whole ∙ mul-mod-right (q / d) d in
-          omega arith
-    ];
+      elim (decLe d (suc b)) [
+        | yes k ↦ let f = leaves-rest q b h d lo k in omega arith
+        | no k ↦
+            let whole : q ≡ q / d * d = omega (arith, div-add-mod' q d) in
+            let small : q / d ≤ suc b = elim (decLe (q / d) (suc b)) [
+              | yes s ↦ s
+              | no s ↦ let l : suc (suc b) ≤ q / d = omega (arith, s) in
+                  let l2 : suc (suc b) ≤ d = omega (arith, k) in
+                  let m = mul-le-mul l l2 in absurd (omega arith)
+            ] in
+            let f = leaves-rest q b h (q / d) (cofactor d (q / d) hi whole) small in
+            let z : q % (q / d) ≡ 0 = ap (λ (x : ℕ). x % (q / d)) whole ∙ mul-mod-right (q / d) d in
+            omega arith
+      ];
 }
   where
     cofactor : (d k : ℕ) → d < q → q ≡ k * d → 1 < k

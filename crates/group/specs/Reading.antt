@@ -29,10 +29,10 @@ elementRefusal m n place = cond (m .member n) None (Some (cond (m .candidate n) 
 abbrev pub scalarRefusal : Meaning → ℕ → ℕ → Option GroupFault
 scalarRefusal m n place = cond (ltb n (m .q)) None (Some (NoCandidate place))
 
--- the value with the number n, where nothing is said against it; else the refusal
-abbrev pub Reads : {E : Type 0} → Option GroupFault → (E → ℕ) → ℕ → Result E GroupFault → Type 0
-Reads refusal numberOf n (Ok x) = (refusal ≡ None) × (numberOf x ≡ n)
-Reads refusal numberOf n (Err fault) = refusal ≡ Some fault
+-- what reading a value answers: the value v, where nothing is said against its code; else the refusal
+abbrev pub Reads : {E V : Type 0} → Option GroupFault → (E → V) → V → Result E GroupFault → Type 0
+Reads refusal of v (Ok x) = (refusal ≡ None) × (of x ≡ v)
+Reads refusal of v (Err fault) = refusal ≡ Some fault
 
 -- the inverse modulo q of a scalar; only 0 has none
 abbrev pub Inverts : {S : Type 0} → ℕ → (S → ℕ) → S → Option S → Type 0

@@ -64,6 +64,11 @@ pub trait Group {
     fn element(number: u32, place: usize) -> Result<Self::Element, GroupFault>
         ensures { λ r. ⌜ Reads (elementRefusal meaning number place) numberOf number r ⌝ };
 
+    // The member with a number that is known to be a member's: no test is made.
+    fn known_element(number: u32) -> Self::Element
+        requires { ⌜ meaning .member number ≡ true ⌝ }
+        ensures { λ r. ⌜ numberOf r ≡ number ⌝ };
+
     fn scalar_number(x: Self::Scalar) -> u32
         ensures { λ r. ⌜ r ≡ scalarOf x ⌝ };
 

@@ -34,20 +34,26 @@ impl<const Q: u32> Modular<Q> {
         ensures { λ r. ⌜ r .value ≡ (self .entry .value + other .entry .value) % Q ⌝ }
     {
         let sum = self.value as u64 + other.value as u64;
-        Modular { value: (sum % Q as u64) as u32 }
+        Modular {
+            value: (sum % Q as u64) as u32,
+        }
     }
 
     pub fn multiply(self, other: Modular<Q>) -> Modular<Q>
         ensures { λ r. ⌜ r .value ≡ (self .entry .value * other .entry .value) % Q ⌝ }
     {
         let product = self.value as u64 * other.value as u64;
-        Modular { value: (product % Q as u64) as u32 }
+        Modular {
+            value: (product % Q as u64) as u32,
+        }
     }
 
     pub fn negate(self) -> Modular<Q>
         ensures { λ r. ⌜ r .value ≡ (Q - self .entry .value) % Q ⌝ }
     {
-        Modular { value: (Q - self.value) % Q }
+        Modular {
+            value: (Q - self.value) % Q,
+        }
     }
 
     // Each turn keeps inverse·self = rest modulo Q, and rest falls to 1.

@@ -124,7 +124,9 @@ pub impl Group for BinaryPolynomials as BinaryPolynomialsGroup {
     }
 
     fn product(a: BinaryPolynomial, b: BinaryPolynomial) -> BinaryPolynomial {
-        BinaryPolynomial { value: multiplied(a.value, b.value) }
+        BinaryPolynomial {
+            value: multiplied(a.value, b.value),
+        }
     }
 
     fn equal(a: BinaryPolynomial, b: BinaryPolynomial) -> bool {
@@ -143,6 +145,10 @@ pub impl Group for BinaryPolynomials as BinaryPolynomialsGroup {
             return Err(GroupFault::NoMember { place });
         }
         Ok(BinaryPolynomial { value: number })
+    }
+
+    fn known_element(number: u32) -> BinaryPolynomial {
+        BinaryPolynomial { value: number }
     }
 
     fn scalar_number(x: Modular<131071>) -> u32 {

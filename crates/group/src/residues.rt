@@ -95,7 +95,9 @@ pub impl Group for Residues as ResiduesGroup {
     }
 
     fn product(a: Residue, b: Residue) -> Residue {
-        Residue { value: a.value * b.value % P }
+        Residue {
+            value: a.value * b.value % P,
+        }
     }
 
     fn equal(a: Residue, b: Residue) -> bool {
@@ -114,6 +116,10 @@ pub impl Group for Residues as ResiduesGroup {
             return Err(GroupFault::NoMember { place });
         }
         Ok(Residue { value: number })
+    }
+
+    fn known_element(number: u32) -> Residue {
+        Residue { value: number }
     }
 
     fn scalar_number(x: Modular<1019>) -> u32 {
