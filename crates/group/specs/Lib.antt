@@ -3,12 +3,7 @@ pub mod Meaning
 pub mod Code
 pub mod Reading
 pub mod Subgroup
-pub mod Residues
-pub mod Polynomials
 pub mod Powers
-pub mod Figures
 pub mod PowerLaws
 pub mod ModularLaws
 pub mod SubgroupLaws
-pub mod ResidueLaws
-pub mod PolynomialLaws

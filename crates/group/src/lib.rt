@@ -1,11 +1,8 @@
-// Sealing groups behind one interface, and two of them.
+// The interface of a sealing group, and all that is the same for every group.
 pub mod codes;
 pub mod fault;
 pub mod group;
 pub mod modular;
 pub mod operation;
-pub mod polynomials;
 pub mod powers;
 pub mod reason;
-pub mod residues;
-pub mod theorems;

@@ -1,6 +1,7 @@
 // The whole numbers below Q, counted modulo Q: a type for each Q.
 ghost use mathlib.Core.Path.{_≡_};
 ghost use Prim.Native.Nat.{_+_, _-_, _*_, _%_, _<_};
+ghost use Rattle.std.specs.declared.option.Option.the-variants.{Some, None};
 ghost use Rattle.group.specs.Meaning.{Prime};
 
 #[derive(Clone, Copy)]
@@ -16,14 +17,14 @@ impl<const Q: u32> Modular<Q> {
         self.value
     }
 
-    pub(crate) fn new(n: u32) -> Modular<Q>
+    pub fn new(n: u32) -> Modular<Q>
         requires { ⌜ n < Q ⌝ }
         ensures { λ r. ⌜ r .value ≡ n ⌝ }
     {
         Modular { value: n }
     }
 
-    pub(crate) fn reduced(n: u32) -> Modular<Q>
+    pub fn reduced(n: u32) -> Modular<Q>
         requires { ⌜ 0 < Q ⌝ }
         ensures { λ r. ⌜ r .value ≡ n % Q ⌝ }
     {
@@ -56,18 +57,20 @@ impl<const Q: u32> Modular<Q> {
         }
     }
 
-    // Each turn keeps inverse·self = rest modulo Q, and rest falls to 1.
-    pub(crate) fn inverse(self) -> Modular<Q>
-        requires prime { ⌜ Prime Q ⌝ }
-        requires positive { ⌜ 0 < self .value ⌝ }
-        ensures { λ r. ⌜ (r .value * self .entry .value) % Q ≡ 1 ⌝ }
+    // Only 0 has no inverse. Each turn keeps inverse·self = rest modulo Q, and rest falls to 1.
+    pub fn inverse(self) -> Option<Modular<Q>>
+        requires { ⌜ Prime Q ⌝ }
+        ensures { λ r. ⌜ elim r [ Some y ↦ (y .value * self .entry .value) % Q ≡ 1 | None ↦ self .entry .value ≡ 0 ] ⌝ }
     {
+        if self.value == 0 {
+            return None;
+        }
         let mut inverse = Modular::<Q>::new(1);
         let mut rest = self.value;
         while rest > 1 {
             inverse = inverse.multiply(Modular::<Q>::new(Q - Q / rest));
             rest = Q % rest;
         }
-        inverse
+        Some(inverse)
     }
 }

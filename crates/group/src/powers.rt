@@ -2,6 +2,7 @@
 ghost use mathlib.Core.Path.{_≡_};
 ghost use Rattle.group.specs.Monoid.{power};
 ghost use Rattle.group.specs.Meaning.{products};
+ghost use Rattle.group.specs.Powers.{Power-laws};
 use crate::group::Group;
 use crate::operation::Operation;
 use crate::operation::raised;
@@ -40,3 +41,8 @@ pub fn power_of<G: Group>(u: G::Element, x: G::Scalar) -> G::Element
 {
     raised::<Products<G>>(u, G::scalar_number(x))
 }
+
+// The powers of every group obey the laws of exponents: a theorem, which its contract states.
+pub fn powers_obey_laws()
+    ensures { λ _. ⌜ Power-laws ⌝ }
+{}

@@ -11,7 +11,7 @@ pub loop-rest-holds : need.loop-rest-holds
 loop-rest-holds g c =
     let a = c .args .self .value in
     let below = c .args .self .below in
-    (c .pre .positive, below, ap (λ (x : ℕ). (x * a) % g .Q) (c .new-inverse .ensures) ∙ ap (λ (x : ℕ). x % g .Q) (one-mul a) ∙ mod-eq-of-lt below)
+    (omega arith, below, ap (λ (x : ℕ). (x * a) % g .Q) (c .new-inverse .ensures) ∙ ap (λ (x : ℕ). x % g .Q) (one-mul a) ∙ mod-eq-of-lt below)
 
 pub loop-rest-again : need.loop-rest-again
 loop-rest-again g c =
@@ -21,5 +21,5 @@ loop-rest-again g c =
     let t = c .loop-rest .inverse .value in
     let a = c .args .self .value in
     let rest = mod-lt q (inv .0) in
-    let pos : 0 < q % b = ⊎-elim (λ e. absurd (c .pre .prime .no-divisor b (c .loop-rest-test .taken) (inv .1) e)) (λ ne. omega (arith, ne)) (cases-eq (q % b) 0) in
+    let pos : 0 < q % b = ⊎-elim (λ e. absurd (c .pre .no-divisor b (c .loop-rest-test .taken) (inv .1) e)) (λ ne. omega (arith, ne)) (cases-eq (q % b) 0) in
     (pos, omega arith, ap (λ (x : ℕ). (x * a) % q) (c .multiply-inverse .ensures ∙ ap (λ (x : ℕ). (t * x) % q) (c .new .ensures)) ∙ inverse-turn q t b a (inv .0) (inv .1) (inv .2))

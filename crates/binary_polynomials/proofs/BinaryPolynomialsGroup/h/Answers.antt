@@ -1,0 +1,5 @@
+use Rattle.binary_polynomials.specs.PolynomialLaws.{polynomials-lawful}
+use Rattle.binary_polynomials.proofs.BinaryPolynomialsGroup.h.Needs as need
+
+pub ghost-result : need.ghost-result
+ghost-result c = (polynomials-lawful .h-member, tt)

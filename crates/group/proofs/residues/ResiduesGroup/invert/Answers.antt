@@ -1,7 +1,0 @@
-use native.Mathlib.Omega.{arith}
-use lib.Dec.{lit<}
-use Rattle.group.specs.ResidueLaws.{prime}
-use Rattle.group.proofs.residues.ResiduesGroup.invert.Needs as need
-
-pub inverse-requires : need.inverse-requires
-inverse-requires c κs = (lit< tt, (prime, omega (arith, c .get .ensures)))
