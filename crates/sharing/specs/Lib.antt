@@ -1,0 +1,6 @@
+pub mod Linear
+pub mod Value
+pub mod Codes
+pub mod Commitment
+pub mod Interpolation
+pub mod LinearLaws

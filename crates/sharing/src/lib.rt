@@ -1,0 +1,6 @@
+// Values on a polynomial, for everything that can be added and scaled.
+pub mod element;
+pub mod evaluation;
+pub mod linear;
+pub mod pair;
+pub mod scalar;
