@@ -58,6 +58,15 @@ module _ (refusal : ℕ → Option GroupFault) (w : ℕ) where
       ap₂ (refusedFrom refusal w) place left
       ∙ taken-rest k (p + w) count (omega arith) (first-none (refusal p) (refusedFrom refusal w (p + w) count) e .1)
 
+  -- where none of all is refused, none of those in front is
+  pub taken-front : (p k count : ℕ) → k ≤ count → refusedFrom refusal w p count ≡ None → refusedFrom refusal w p k ≡ None
+  unfolding refusedFrom
+  taken-front p zero count h e = refl
+  taken-front p (suc k) zero h e = absurd (omega arith)
+  taken-front p (suc k) (suc count) h e =
+      let none = first-none (refusal p) (refusedFrom refusal w (p + w) count) e in
+      ap₂ firstOf (none .0) (taken-front (p + w) k count (omega arith) (none .1))
+
   pub taken-at : (k p count : ℕ) → k < count → refusedFrom refusal w p count ≡ None → refusal (p + k * w) ≡ None
   taken-at k p count h e =
       let next : count - k ≡ suc (count - (k + 1)) = omega arith in

@@ -1,4 +1,5 @@
 // Values on a polynomial, for everything that can be added and scaled.
+pub mod commitment;
 pub mod element;
 pub mod evaluation;
 pub mod linear;

@@ -1,0 +1,77 @@
+-- What each call of a dealing answers. Definitions.
+use mathlib.Core.Path.{_≡_}
+use mathlib.Core.Bool.{Bool, true, cond}
+use mathlib.Core.List.{List, _++_}
+use Prim.Native.Nat.{ℕ, _+_, _*_}
+use lib.Dec.{eqb, leb}
+use lib.ListN.{length}
+use lib.Seq.{paste}
+use Rattle.std.specs.declared.option.Option.{Option}
+use Rattle.std.specs.declared.option.Option.the-variants.{Some, None}
+use Rattle.std.specs.declared.result.Result.{Result}
+use Rattle.std.specs.declared.result.Result.the-variants.{Ok, Err}
+use Rattle.group.specs.declared.fault.GroupFault.{GroupFault}
+use Rattle.group.specs.Code.{code, codeAt}
+use Rattle.group.specs.Meaning.{Meaning, products}
+use Rattle.group.specs.Reading as reading
+use Rattle.sharing.specs.Value.{valueAt}
+use Rattle.sharing.specs.Codes.{firstOf, decodedFrom, refusedFrom, scalarRefused, elementRefused}
+use Rattle.sharing.specs.Commitment.{commitment}
+use Rattle.dealing.specs.Record.{deal}
+use Rattle.dealing.specs.Dealing.{scalarsFrom, commitmentsOf, shareFor}
+use Rattle.dealing.specs.declared.fault.DealingFault.{DealingFault}
+use Rattle.dealing.specs.declared.fault.DealingFault.the-variants.{Length, Code, Output}
+
+-- the number of each refusal
+abbrev pub numberOf : DealingFault → ℕ
+numberOf Length = 3
+numberOf (Code fault) = 9
+numberOf Output = 14
+
+-- the byte that it names in what was handed over, else 0
+abbrev pub placeOf : DealingFault → ℕ
+placeOf Length = 0
+placeOf (Code fault) = reading.placeOf fault
+placeOf Output = 0
+
+-- the group's reason, else 0
+abbrev pub reasonOf : DealingFault → ℕ
+reasonOf Length = 0
+reasonOf (Code fault) = reading.reasonOf fault
+reasonOf Output = 0
+
+-- an answer that stands where a test holds
+abbrev pub unless : {A : Type 0} → Bool → DealingFault → Result A DealingFault → Result A DealingFault
+unless test fault answer = cond test answer (Err fault)
+
+-- an answer that stands where no code is refused
+abbrev pub whereTaken : {A : Type 0} → Option GroupFault → Result A DealingFault → Result A DealingFault
+whereTaken None answer = answer
+whereTaken (Some fault) answer = Err (Code fault)
+
+-- an answer that stands where the coefficients pass: their length is tested first, then their codes in order
+abbrev pub wherePassed : {A : Type 0} → Meaning → List ℕ → ℕ → Result A DealingFault → Result A DealingFault
+wherePassed m coefficients count answer =
+    unless (eqb (length coefficients) (2 * (count * m .s))) Length
+    (whereTaken (refusedFrom (scalarRefused m coefficients) (m .s) 0 (2 * count)) answer)
+
+-- the coefficients are tested before the room for what is written
+abbrev pub drawnUp : Meaning → List ℕ → ℕ → ℕ → List ℕ → Result (List ℕ) DealingFault
+drawnUp m coefficients count room written =
+    wherePassed m coefficients count (unless (leb (length written) room) Output (Ok written))
+
+-- what drawing up a Deal answers: the record
+abbrev pub dealDrawnUp : Meaning → ℕ → ℕ → List ℕ → ℕ → Result (List ℕ) DealingFault
+dealDrawnUp m seat count coefficients room =
+    drawnUp m coefficients count room (deal (m .w) seat (commitmentsOf m coefficients count))
+
+-- what drawing up a share answers: the codes of s and s′
+abbrev pub shareDrawnUp : Meaning → ℕ → List ℕ → ℕ → ℕ → Result (List ℕ) DealingFault
+shareDrawnUp m count coefficients seat room =
+    let share = shareFor m coefficients count seat in
+    drawnUp m coefficients count room (code (m .s) (share .0) ++ code (m .s) (share .1))
+
+-- what was drawn up stands at the start of the output, whose other bytes stay; a refusal changes nothing
+abbrev pub Writes : Result (List ℕ) DealingFault → List ℕ → Result ℕ DealingFault → List ℕ → Type 0
+Writes (Ok written) before r after = (r ≡ Ok (length written)) × (after ≡ paste before 0 written (length written))
+Writes (Err fault) before r after = (r ≡ Err fault) × (after ≡ before)

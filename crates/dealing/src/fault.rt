@@ -1,0 +1,13 @@
+// Why a call of a dealing is refused.
+use group::fault::GroupFault;
+use group::fault::GroupFaultDebug;
+use group::fault::GroupFaultPartialEq;
+
+#[derive(Clone, Copy, Debug, PartialEq, Eq)]
+pub enum DealingFault {
+    // The codes handed over are not as many bytes as t asks for.
+    Length,
+    Code(GroupFault),
+    // The output is too small.
+    Output,
+}
