@@ -1,2 +1,3 @@
 pub mod CodeLists
+pub mod Opening
 pub mod Passing

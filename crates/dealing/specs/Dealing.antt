@@ -1,15 +1,13 @@
 -- What a dealer makes of its coefficients a_0 .. a_t, b_0 .. b_t, which stand in bytes as scalar codes. Definitions.
 use mathlib.Core.Path.{_≡_}
-use mathlib.Core.Bool.{Bool, true}
+use mathlib.Core.Bool.{true}
 use mathlib.Core.List.{List}
 use Prim.Native.Nat.{ℕ, _+_, _*_}
-use lib.ListN.{length}
-use Rattle.std.specs.declared.option.Option.the-variants.{None}
 use Rattle.group.specs.Code.{codeAt}
 use Rattle.group.specs.Meaning.{Meaning, Lawful}
 use Rattle.sharing.specs.Linear.{scalarSum}
 use Rattle.sharing.specs.Value.{valueAt}
-use Rattle.sharing.specs.Codes.{decodedFrom, refusedFrom, scalarRefused}
+use Rattle.sharing.specs.Codes.{decodedFrom}
 use Rattle.sharing.specs.Commitment.{commitment, equation1}
 
 -- `count` scalars from a place on
@@ -26,9 +24,8 @@ abbrev pub shareFor : Meaning → List ℕ → ℕ → ℕ → ℕ × ℕ
 shareFor m bytes count seat =
     (valueAt (scalarSum (m .q)) (scalarsFrom m bytes 0 count) seat, valueAt (scalarSum (m .q)) (scalarsFrom m bytes (count * m .s) count) seat)
 
--- each share that is dealt opens the value of the commitments at its seat, in every group
+-- each share that is dealt passes equation 1, in every group
 abbrev pub Dealt-shares-open : Type 0
 Dealt-shares-open =
     (m : Meaning) → Lawful m → (bytes : List ℕ) (count seat : ℕ)
-    → refusedFrom (scalarRefused m bytes) (m .s) 0 (2 * count) ≡ None
     → equation1 m (commitmentsOf m bytes count) seat (shareFor m bytes count seat) ≡ true

@@ -1,6 +1,6 @@
 -- What each call of a dealing answers. Definitions.
 use mathlib.Core.Path.{_≡_}
-use mathlib.Core.Bool.{Bool, true, cond}
+use mathlib.Core.Bool.{Bool, cond, _&&_}
 use mathlib.Core.List.{List, _++_}
 use Prim.Native.Nat.{ℕ, _+_, _*_}
 use lib.Dec.{eqb, leb}
@@ -18,7 +18,8 @@ use Rattle.sharing.specs.Value.{valueAt}
 use Rattle.sharing.specs.Codes.{firstOf, decodedFrom, refusedFrom, scalarRefused, elementRefused}
 use Rattle.sharing.specs.Commitment.{commitment}
 use Rattle.dealing.specs.Record.{deal}
-use Rattle.dealing.specs.Dealing.{scalarsFrom, commitmentsOf, shareFor}
+use Rattle.dealing.specs.Dealing.{commitmentsOf, shareFor}
+use Rattle.dealing.specs.declared.sides.Sides.{Sides}
 use Rattle.dealing.specs.declared.fault.DealingFault.{DealingFault}
 use Rattle.dealing.specs.declared.fault.DealingFault.the-variants.{Length, Code, Output}
 
@@ -75,3 +76,15 @@ shareDrawnUp m count coefficients seat room =
 abbrev pub Writes : Result (List ℕ) DealingFault → List ℕ → Result ℕ DealingFault → List ℕ → Type 0
 Writes (Ok written) before r after = (r ≡ Ok (length written)) × (after ≡ paste before 0 written (length written))
 Writes (Err fault) before r after = (r ≡ Err fault) × (after ≡ before)
+
+-- what testing a share answers: both sides of equation 1, each read from its bytes;
+-- tested are first the lengths, then the codes of the commitments, then those of the share
+abbrev pub sidesOf : Meaning → ℕ → List ℕ → List ℕ → ℕ → Result Sides DealingFault
+sidesOf m count commitments share seat =
+    unless (eqb (length commitments) (count * m .w) && eqb (length share) (2 * m .s)) Length
+    (whereTaken (refusedFrom (elementRefused m commitments) (m .w) 0 count)
+    (whereTaken (firstOf (scalarRefused m share 0) (scalarRefused m share (m .s)))
+    (Ok (record {
+      committed = commitment m (codeAt share (m .s) 0, codeAt share (m .s) (m .s));
+      value = valueAt (products m) (decodedFrom (λ place. codeAt commitments (m .w) place) (m .w) 0 count) seat;
+    }))))

@@ -2,3 +2,5 @@
 pub mod deal;
 pub mod fault;
 pub mod report;
+pub mod sides;
+pub mod trial;
