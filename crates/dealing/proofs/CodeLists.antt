@@ -40,7 +40,7 @@ codes-length w (n ∷ ns) k e =
 -- one code more, pasted behind those before it
 pub paste-code : (out : List ℕ) (at : ℕ) (decoded : ℕ → ℕ) (s w k : ℕ) → at ≤ length out
     → paste (paste out at (codes w (decodedFrom decoded s 0 k)) (k * w)) (at + k * w) (code w (decoded (0 + k * s))) w
-      ≡ paste out at (codes w (decodedFrom decoded s 0 (k + 1))) ((k + 1) * w)
+    ≡ paste out at (codes w (decodedFrom decoded s 0 (k + 1))) ((k + 1) * w)
 paste-code out at decoded s w k h =
     let before = decodedFrom decoded s 0 k in
     let one : k + 1 ≡ suc k = omega arith in
@@ -63,7 +63,7 @@ deal-length w seat commitments k e =
 
 pub deal-pasted : (out : List ℕ) (w seat size : ℕ) (commitments : List ℕ) (k : ℕ) → seat < 256 → length commitments ≡ k → size ≡ 5 + k * w
     → paste (paste (paste (paste out 0 (code 2 (size - 2)) 2) 2 (code 2 2) 2) 4 (code 1 seat) 1) 5 (codes w commitments) (k * w)
-      ≡ paste out 0 (deal w seat commitments) size
+    ≡ paste out 0 (deal w seat commitments) size
 deal-pasted out w seat size commitments k small e is =
     let body = codes w commitments in
     let long = codes-length w commitments k e in

@@ -21,20 +21,20 @@ module _ (m : Meaning) (laws : Lawful m) where
   -- a power with the exponent (e·a + x) modulo q, of any member
   power-step : (u : ℕ) → m .member u ≡ true → (e a x : ℕ)
       → m .product (power (products m) (power (products m) u a) e) (power (products m) u x)
-        ≡ power (products m) u ((scaled (scalarSum (m .q)) e a + x) % m .q)
+      ≡ power (products m) u ((scaled (scalarSum (m .q)) e a + x) % m .q)
   power-step u hu e a x =
       let ab = laws .commutative in
       let order = laws .order u hu in
       let q = m .q in
       ap (λ (v : ℕ). m .product v (power (products m) u x))
-        (sym (power-mul ab u a e hu) ∙ ap (power (products m) u) (mul-comm a e) ∙ sym (power-mod ab u (e * a) q hu order) ∙ ap (power (products m) u) (sym (scaled-scalar q e a)))
+      (sym (power-mul ab u a e hu) ∙ ap (power (products m) u) (mul-comm a e) ∙ sym (power-mod ab u (e * a) q hu order) ∙ ap (power (products m) u) (sym (scaled-scalar q e a)))
       ∙ sym (power-add ab u (scaled (scalarSum q) e a) x hu)
       ∙ sym (power-mod ab u (scaled (scalarSum q) e a + x) q hu order)
 
   -- one term of the sum
   commitment-step : (e a b x y : ℕ)
       → m .product (power (products m) (commitment m (a, b)) e) (commitment m (x, y))
-        ≡ commitment m ((scaled (scalarSum (m .q)) e a + x) % m .q, (scaled (scalarSum (m .q)) e b + y) % m .q)
+      ≡ commitment m ((scaled (scalarSum (m .q)) e a + x) % m .q, (scaled (scalarSum (m .q)) e b + y) % m .q)
   commitment-step e a b x y =
       let ab = laws .commutative in
       let G : ℕ → ℕ = power (products m) (m .g) in
@@ -51,7 +51,7 @@ module _ (m : Meaning) (laws : Lawful m) where
 
     commitment-sum : (n p r k : ℕ) → r ≡ p + away
         → commitment m (sumFrom (scalarSum (m .q)) (scalarsFrom m bytes p n) j k, sumFrom (scalarSum (m .q)) (scalarsFrom m bytes r n) j k)
-          ≡ sumFrom (products m) (decodedFrom committed (m .s) p n) j k
+        ≡ sumFrom (products m) (decodedFrom committed (m .s) p n) j k
     unfolding sumFrom decodedFrom committed
     commitment-sum zero p r k e =
         ap₂ (m .product) (power-zero (laws .commutative) (m .g)) (power-zero (laws .commutative) (m .h))
@@ -62,7 +62,7 @@ module _ (m : Meaning) (laws : Lawful m) where
         let y = sumFrom S (scalarsFrom m bytes (r + m .s) n) j (suc k) in
         sym (commitment-step (j ^ k) (codeAt bytes (m .s) p) (codeAt bytes (m .s) r) x y)
         ∙ ap₂ (λ (b v : ℕ). m .product (power (products m) (commitment m (codeAt bytes (m .s) p, codeAt bytes (m .s) b)) (j ^ k)) v)
-          e (commitment-sum n (p + m .s) (r + m .s) (suc k) (omega arith))
+        e (commitment-sum n (p + m .s) (r + m .s) (suc k) (omega arith))
 
 pub dealt-shares-open : Dealt-shares-open
 unfolding committed

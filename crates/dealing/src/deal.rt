@@ -53,7 +53,12 @@ fn write_commitments<G: Group>(coefficients: &[u8], count: usize, out: &mut [u8]
 }
 
 // Writes the Deal of the dealer at a seat, and tells its length.
-pub fn draw_up_deal<G: Group>(seat: u8, t: u8, coefficients: &[u8], out: &mut [u8]) -> Result<usize, DealingFault>
+pub fn draw_up_deal<G: Group>(
+    seat: u8,
+    t: u8,
+    coefficients: &[u8],
+    out: &mut [u8],
+) -> Result<usize, DealingFault>
     ensures { λ r. ⌜ Writes (dealDrawnUp meaning seat (t + 1) (now (coefficients .entry)) (length (now (out .entry)))) (now (out .entry)) r (now (out .exit)) ⌝ }
 {
     let count = t as usize + 1;
@@ -70,7 +75,12 @@ pub fn draw_up_deal<G: Group>(seat: u8, t: u8, coefficients: &[u8], out: &mut [u
 }
 
 // Writes the codes of s and s' of the share for a seat, and tells their length.
-pub fn draw_up_share<G: Group>(t: u8, coefficients: &[u8], seat: u8, out: &mut [u8]) -> Result<usize, DealingFault>
+pub fn draw_up_share<G: Group>(
+    t: u8,
+    coefficients: &[u8],
+    seat: u8,
+    out: &mut [u8],
+) -> Result<usize, DealingFault>
     ensures { λ r. ⌜ Writes (shareDrawnUp meaning (t + 1) (now (coefficients .entry)) seat (length (now (out .entry)))) (now (out .entry)) r (now (out .exit)) ⌝ }
 {
     let count = t as usize + 1;

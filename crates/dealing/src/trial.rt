@@ -17,7 +17,12 @@ use sharing::pair::PairLinear;
 use sharing::scalar::ScalarLinear;
 
 // The share passes where both sides are equal.
-pub fn test_share<G: Group>(t: u8, commitments: &[u8], share: &[u8], seat: u8) -> Result<Sides, DealingFault>
+pub fn test_share<G: Group>(
+    t: u8,
+    commitments: &[u8],
+    share: &[u8],
+    seat: u8,
+) -> Result<Sides, DealingFault>
     ensures { λ r. ⌜ r ≡ sidesOf meaning (t + 1) (now (commitments .entry)) (now (share .entry)) seat ⌝ }
 {
     let count = t as usize + 1;

@@ -1,2 +1,4 @@
 pub mod Horner
 pub mod CodeWalk
+pub mod Inverses
+pub mod Differences

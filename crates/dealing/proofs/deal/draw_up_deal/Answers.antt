@@ -38,9 +38,9 @@ returns g c =
     let outcome = drawn-up m bytes n (sym (c .check-coefficients .ensures) ∙ c .in-Continue-check-coefficients .was tt) (length out) record′ (omega (arith, long, wide, c .if-out-size .left)) in
     let body = codes (m .w) commitments in
     let pasted =
-        c .write-commitments .ensures
-        ∙ ap (λ (d : List ℕ). paste d 5 body (n * m .w))
-            (c .write-code-3 .ensures
-             ∙ ap (λ (d : List ℕ). paste d 4 (code 1 (c .args .seat)) 1) (c .write-code-2 .ensures ∙ ap (λ (d : List ℕ). paste d 2 (code 2 2) 2) (c .write-code .ensures)))
-        ∙ deal-pasted out (m .w) (c .args .seat) (5 + n * c .width .result) commitments n (omega arith) many size in
+    c .write-commitments .ensures
+    ∙ ap (λ (d : List ℕ). paste d 5 body (n * m .w))
+    (c .write-code-3 .ensures
+    ∙ ap (λ (d : List ℕ). paste d 4 (code 1 (c .args .seat)) 1) (c .write-code-2 .ensures ∙ ap (λ (d : List ℕ). paste d 2 (code 2 2) 2) (c .write-code .ensures)))
+    ∙ deal-pasted out (m .w) (c .args .seat) (5 + n * c .width .result) commitments n (omega arith) many size in
     written outcome out (c .write-commitments .last .out) (5 + n * c .width .result) (size ∙ sym long) (pasted ∙ ap (paste out 0 record′) (size ∙ sym long))

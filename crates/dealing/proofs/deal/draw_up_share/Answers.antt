@@ -67,7 +67,7 @@ returns g c =
     let right = c .value-of-known-right .ensures ∙ ap (λ (w : ℕ). valueAt (scalarSum (m .q)) (scalarsFrom m bytes (n * w) n) (c .args .seat)) (c .scalar-width-s .ensures) in
     let size : m .s + m .s ≡ length (a ++ b) = omega (arith, long, c .scalar-width-s .ensures) in
     let pasted =
-        c .write .ensures
-        ∙ ap₂ (λ (x y : ℕ). paste out 0 (code (m .s) x ++ code (m .s) y) (m .s + m .s)) left right
-        ∙ ap (paste out 0 (a ++ b)) size in
+    c .write .ensures
+    ∙ ap₂ (λ (x y : ℕ). paste out 0 (code (m .s) x ++ code (m .s) y) (m .s + m .s)) left right
+    ∙ ap (paste out 0 (a ++ b)) size in
     written outcome out (c .write .last .out) (2 * c .scalar-width-s .result) long pasted

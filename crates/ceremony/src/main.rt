@@ -1,0 +1,162 @@
+// One dealing from beginning to end, in both groups, told in printed lines.
+use binary_polynomials::BinaryPolynomials;
+use binary_polynomials::BinaryPolynomialsGroup;
+use binary_polynomials::product_is_remainder;
+use dealing::deal::draw_up_deal;
+use dealing::deal::draw_up_share;
+use dealing::fault::DealingFault;
+use dealing::trial::dealt_shares_open;
+use dealing::trial::test_share;
+use figures::figures_hold;
+use group::group::Group;
+use group::powers::powers_obey_laws;
+use residues::Residues;
+use residues::ResiduesGroup;
+use std::io;
+
+// The dealer's seat, the threshold, how many seats there are, and the codes of a_0 .. a_t, b_0 .. b_t.
+#[derive(Drop)]
+struct Dealing<'a> {
+    dealer: u8,
+    t: u8,
+    seats: u8,
+    coefficients: &'a [u8],
+}
+
+fn print_bytes(rt: LibcRuntime, what: &str, bytes: &[u8]) -> io::Result<()> {
+    print!(rt, "{what}:")?;
+    for b in bytes {
+        print!(rt, " {b:02x}")?;
+    }
+    println!(rt, "")
+}
+
+fn print_fault(rt: LibcRuntime, what: &str, fault: DealingFault) -> io::Result<()> {
+    let number = fault.number();
+    let place = fault.place();
+    let reason = fault.reason();
+    println!(
+        rt,
+        "{what}: refused with {number} at {place}, reason {reason}"
+    )
+}
+
+// Tests one share, read from its bytes, against the commitments, read from theirs.
+fn print_test<G: Group>(
+    rt: LibcRuntime,
+    t: u8,
+    commitments: &[u8],
+    share: &[u8],
+    seat: u8,
+) -> io::Result<()> {
+    match test_share::<G>(t, commitments, share, seat) {
+        Ok(sides) => {
+            let committed = sides.committed;
+            let value = sides.value;
+            let verdict = if committed == value {
+                "passes"
+            } else {
+                "fails"
+            };
+            println!(
+                rt,
+                "  seat {seat}: g^s h^s' = {committed}, commitments give {value}: {verdict}"
+            )
+        }
+        Err(fault) => print_fault(rt, "  the test", fault),
+    }
+}
+
+// Draws up the share for a seat, prints its bytes, tests it, and tests it once more with one bit changed.
+fn deal_to_seat<G: Group>(
+    rt: LibcRuntime,
+    dealing: &Dealing,
+    commitments: &[u8],
+    seat: u8,
+) -> io::Result<()> {
+    let mut share = [0u8; 8];
+    match draw_up_share::<G>(dealing.t, dealing.coefficients, seat, &mut share) {
+        Ok(length) => {
+            if length > 8 {
+                return Ok(());
+            }
+            print_bytes(rt, "  share", &share[0..length])?;
+            print_test::<G>(rt, dealing.t, commitments, &share[0..length], seat)?;
+            share[0] ^= 1;
+            print_bytes(rt, "  share with a bit changed", &share[0..length])?;
+            print_test::<G>(rt, dealing.t, commitments, &share[0..length], seat)
+        }
+        Err(fault) => print_fault(rt, "  the share", fault),
+    }
+}
+
+// The whole dealing: the Deal, then a share for each seat.
+fn deal_in<G: Group>(rt: LibcRuntime, dealing: &Dealing) -> io::Result<()> {
+    let number = G::group_number();
+    let g = G::element_number(G::g());
+    let h = G::element_number(G::h());
+    println!(rt, "group {number}: g = {g}, h = {h}")?;
+    print_bytes(rt, "coefficients", dealing.coefficients)?;
+    let mut record = [0u8; 128];
+    match draw_up_deal::<G>(dealing.dealer, dealing.t, dealing.coefficients, &mut record) {
+        Ok(length) => {
+            if length < 5 || length > 128 {
+                return Ok(());
+            }
+            print_bytes(rt, "Deal", &record[0..length])?;
+            for seat in 1..dealing.seats.saturating_add(1) {
+                deal_to_seat::<G>(rt, dealing, &record[5..length], seat)?;
+            }
+            Ok(())
+        }
+        Err(fault) => print_fault(rt, "the Deal", fault),
+    }
+}
+
+fn main(rt: LibcRuntime) -> io::Result<()> {
+    // These calls do nothing: their contracts are the theorems.
+    powers_obey_laws();
+    product_is_remainder();
+    dealt_shares_open();
+    figures_hold();
+    let first = Dealing {
+        dealer: 1,
+        t: 1,
+        seats: 3,
+        coefficients: &[2, 0, 1, 0, 1, 0, 0, 0],
+    };
+    deal_in::<Residues>(rt, &first)?;
+    let second = Dealing {
+        dealer: 2,
+        t: 2,
+        seats: 5,
+        coefficients: &[
+            0x39,
+            0x30,
+            0,
+            0xfe,
+            0xff,
+            1,
+            7,
+            0,
+            0,
+            0x10,
+            0x27,
+            0,
+            1,
+            0,
+            0,
+            0xfe,
+            0xff,
+            1,
+        ],
+    };
+    deal_in::<BinaryPolynomials>(rt, &second)?;
+    let refused = Dealing {
+        dealer: 1,
+        t: 0,
+        seats: 1,
+        coefficients: &[0xfb, 3, 0, 0],
+    };
+    deal_in::<Residues>(rt, &refused)
+}

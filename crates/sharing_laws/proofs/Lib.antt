@@ -1,0 +1,9 @@
+pub mod Multiples
+pub mod Factors
+pub mod Samples
+pub mod Homomorphisms
+pub mod Weights
+pub mod Members
+pub mod Interpolating
+pub mod Openings
+pub mod Logarithms
