@@ -1,7 +1,7 @@
 -- Differences modulo q.
-use mathlib.Core.Path.{_≡_, sym, ap, _∙_}
+use mathlib.Core.Path.{_≡_, sym, ap, ap₂, _∙_}
 use Prim.Native.Nat.{ℕ, _+_, _-_, _%_, _<_, _≤_}
-use native.Mathlib.Nat.{mod-lt, mod-eq-of-lt, mod-add-mod, add-mod-right, zero-add}
+use native.Mathlib.Nat.{mod-lt, mod-eq-of-lt, mod-add-mod, add-mod-mod, add-mod-right, zero-add}
 use native.Mathlib.Omega.{arith}
 use Rattle.sharing.specs.Interpolation.{minus}
 
@@ -19,3 +19,9 @@ minus-positive q a b ha hb differ = let some : minus q a b ≡ 0 → ⊥ = λ e.
     back : minus q a b ≡ 0 → a ≡ b
     back e =
         sym (mod-eq-of-lt ha) ∙ sym (minus-back q a b (omega arith)) ∙ ap (λ (x : ℕ). (x + b) % q) e ∙ ap (λ (x : ℕ). x % q) (zero-add b) ∙ mod-eq-of-lt hb
+
+-- a sum with the negative is the difference
+pub sum-with-negative : (q a b x y z : ℕ) → a < q → b < q → x ≡ a % q → y ≡ b % q → z ≡ (q - y) % q → (x + z) % q ≡ minus q a b
+sum-with-negative q a b x y z ha hb ex ey ez =
+    ap₂ (λ (u v : ℕ). (u + v) % q) (ex ∙ mod-eq-of-lt ha) (ez ∙ ap (λ (v : ℕ). (q - v) % q) (ey ∙ mod-eq-of-lt hb))
+    ∙ add-mod-mod a (q - b) q

@@ -46,6 +46,11 @@ seatsOf (e ∷ es) = e .0 ∷ seatsOf es
 abbrev pub interpolated : {V : Type 0} → Monoid V → ℕ → List (ℕ × V) → V
 interpolated sum q entries = weighted sum (weight q (seatsOf entries)) entries
 
+-- the entries of some seats, whose codes of a width stand one after another from a place on
+unfoldable pub entriesFrom : {V : Type 0} → (ℕ → V) → ℕ → ℕ → List ℕ → List (ℕ × V)
+entriesFrom decoded width at [] = []
+entriesFrom decoded width at (m ∷ ms) = (m, decoded at) ∷ entriesFrom decoded width (at + width) ms
+
 -- different seats from 1 to 32
 abbrev pub Seats : List ℕ → Type 0
 Seats [] = Unit {0}

@@ -2,6 +2,7 @@
 pub mod commitment;
 pub mod element;
 pub mod evaluation;
+pub mod interpolation;
 pub mod linear;
 pub mod pair;
 pub mod scalar;
