@@ -1,10 +1,11 @@
 -- One seat more of a list of seats, taken from its end.
-use mathlib.Core.Path.{_≡_, refl, sym, ap, _∙_}
+use mathlib.Core.Path.{_≡_, refl, sym, ap, subst, _∙_}
 use mathlib.Core.List.{List, [], _∷_}
 use Prim.Native.Nat.{ℕ, zero, suc, _+_, _-_, _*_, _%_, _<_, _≤_}
 use native.Mathlib.Omega.{arith}
 use lib.ListN.{length, getD, drop}
 use lib.Seq.{drop-cons, drop-length}
+use Rattle.std.specs.shelf.Lists.{All}
 use Rattle.sharing.specs.Linear.{scaled}
 use Rattle.sharing.specs.Interpolation.{Seats, factor, weight, weighted, seatsOf, entriesFrom}
 use Rattle.group.specs.Monoid.{Monoid}
@@ -19,6 +20,49 @@ from-before : (seats : List ℕ) (k : ℕ) → 0 < k → k ≤ length seats → 
 from-before seats k pos h =
     let up : suc (k - 1) ≡ k = omega arith in
     drop-cons seats (k - 1) 0 (omega arith) ∙ ap (λ (i : ℕ). getD seats (k - 1) 0 ∷ drop i seats) up
+
+-- What holds of each seat from an index on.
+
+pub all-none : (P : ℕ → Type 0) (seats : List ℕ) → All P (drop (length seats) seats)
+all-none P seats = subst (All P) (sym (drop-length seats)) tt
+
+pub all-before : (P : ℕ → Type 0) (seats : List ℕ) (k : ℕ) → 0 < k → k ≤ length seats → P (getD seats (k - 1) 0) → All P (drop k seats) → All P (drop (k - 1) seats)
+all-before P seats k pos h here later = subst (All P) (sym (from-before seats k pos h)) (here, later)
+
+pub all-at : (P : ℕ → Type 0) (seats : List ℕ) (start k : ℕ) → start ≤ k → k < length seats → All P (drop start seats) → P (getD seats k 0)
+all-at P [] start k from h all = absurd (omega arith)
+all-at P (m ∷ ms) zero zero from h all = all .0
+all-at P (m ∷ ms) zero (suc k) from h all = all-at P ms zero k (omega arith) (omega arith) (all .1)
+all-at P (m ∷ ms) (suc start) zero from h all = absurd (omega arith)
+all-at P (m ∷ ms) (suc start) (suc k) from h all = all-at P ms start k (omega arith) (omega arith) all
+
+pub all-later : (P : ℕ → Type 0) (seats : List ℕ) (k start : ℕ) → k ≤ start → All P (drop k seats) → All P (drop start seats)
+all-later P [] k zero h all = tt
+all-later P [] k (suc start) h all = tt
+all-later P (m ∷ ms) zero zero h all = all
+all-later P (m ∷ ms) zero (suc start) h all = all-later P ms zero start (omega arith) (all .1)
+all-later P (m ∷ ms) (suc k) zero h all = absurd (omega arith)
+all-later P (m ∷ ms) (suc k) (suc start) h all = all-later P ms k start (omega arith) all
+
+pub seats-none : (seats : List ℕ) → Seats (drop (length seats) seats)
+seats-none seats = subst Seats (sym (drop-length seats)) tt
+
+pub seats-before : (seats : List ℕ) (k : ℕ) → 0 < k → k ≤ length seats
+    → 1 ≤ getD seats (k - 1) 0 → getD seats (k - 1) 0 ≤ 32 → All (λ l. getD seats (k - 1) 0 ≡ l → ⊥) (drop k seats) → Seats (drop k seats)
+    → Seats (drop (k - 1) seats)
+seats-before seats k pos h low high differ later = subst Seats (sym (from-before seats k pos h)) (low, high, differ, later)
+
+-- what different seats say of the one before the index k
+pub seats-at : (seats : List ℕ) (k : ℕ) → 0 < k → k ≤ length seats → Seats seats
+    → (1 ≤ getD seats (k - 1) 0) × (getD seats (k - 1) 0 ≤ 32) × All (λ l. getD seats (k - 1) 0 ≡ l → ⊥) (drop k seats)
+seats-at seats k pos h all =
+    let here = subst Seats (from-before seats k pos h) (seats-drop (k - 1) seats all) in
+    (here .0, here .1, here .2)
+  where
+    seats-drop : (i : ℕ) (seats : List ℕ) → Seats seats → Seats (drop i seats)
+    seats-drop zero seats all = all
+    seats-drop (suc i) [] all = all
+    seats-drop (suc i) (m ∷ ms) all = seats-drop i ms (all .3)
 
 pub weight-none : (q : ℕ) (seats : List ℕ) (m : ℕ) → weight q (drop (length seats) seats) m ≡ 1
 unfolding weight

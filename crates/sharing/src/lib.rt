@@ -6,3 +6,4 @@ pub mod interpolation;
 pub mod linear;
 pub mod pair;
 pub mod scalar;
+pub mod seats;
