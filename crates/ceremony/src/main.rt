@@ -5,6 +5,7 @@ use binary_polynomials::product_is_remainder;
 use dealing::deal::draw_up_deal;
 use dealing::deal::draw_up_share;
 use dealing::fault::DealingFault;
+use dealing::report::DealingFromGroup;
 use dealing::trial::dealt_shares_open;
 use dealing::trial::test_share;
 use figures::figures_hold;
@@ -12,6 +13,16 @@ use group::group::Group;
 use group::powers::powers_obey_laws;
 use residues::Residues;
 use residues::ResiduesGroup;
+use sharing::commitment::Share;
+use sharing::interpolation::interpolate;
+use sharing::pair::PairLinear;
+use sharing::scalar::ScalarLinear;
+use sharing::seats::are_different_seats;
+use sharing_laws::logarithms_interpolate;
+use sharing_laws::logarithms_unique;
+use sharing_laws::openings_differ;
+use sharing_laws::openings_interpolate;
+use sharing_laws::values_interpolate;
 use std::io;
 
 // The dealer's seat, the threshold, how many seats there are, and the codes of a_0 .. a_t, b_0 .. b_t.
@@ -113,10 +124,52 @@ fn deal_in<G: Group>(rt: LibcRuntime, dealing: &Dealing) -> io::Result<()> {
     }
 }
 
+// Draws up the shares for some seats, one after another.
+fn fill_shares<G: Group>(
+    dealing: &Dealing,
+    seats: &[u8],
+    shares: &mut [u8],
+) -> Result<(), DealingFault> {
+    let mut place = 0;
+    for seat in seats {
+        if place > shares.len() {
+            return Err(DealingFault::Output);
+        }
+        place += draw_up_share::<G>(dealing.t, dealing.coefficients, *seat, &mut shares[place..])?;
+    }
+    Ok(())
+}
+
+// Recovers the dealer's secret a_0, with b_0, from the shares of t + 1 seats, which are read from their bytes.
+fn recover<G: Group>(rt: LibcRuntime, dealing: &Dealing, seats: &[u8]) -> io::Result<()> {
+    let mut shares = [0u8; 128];
+    if let Err(fault) = fill_shares::<G>(dealing, seats, &mut shares) {
+        return print_fault(rt, "the shares", fault);
+    }
+    if seats.len() > 16 || !are_different_seats(seats) {
+        return println!(rt, "these are not up to 16 different seats");
+    }
+    print_bytes(rt, "from seats", seats)?;
+    match interpolate::<G, Share<G>>(seats, &shares, 0) {
+        Ok(opening) => {
+            let secret = G::scalar_number(opening.left.value);
+            let blinding = G::scalar_number(opening.right.value);
+            println!(rt, "recovered: a_0 = {secret}, b_0 = {blinding}")
+        }
+        Err(fault) => print_fault(rt, "the shares", fault.into()),
+    }
+}
+
 fn main(rt: LibcRuntime) -> io::Result<()> {
     // These calls do nothing: their contracts are the theorems.
     powers_obey_laws();
     product_is_remainder();
+    values_interpolate::<Residues, Share<Residues>>();
+    values_interpolate::<BinaryPolynomials, Share<BinaryPolynomials>>();
+    openings_interpolate();
+    logarithms_interpolate();
+    logarithms_unique();
+    openings_differ();
     dealt_shares_open();
     figures_hold();
     let first = Dealing {
@@ -126,6 +179,7 @@ fn main(rt: LibcRuntime) -> io::Result<()> {
         coefficients: &[2, 0, 1, 0, 1, 0, 0, 0],
     };
     deal_in::<Residues>(rt, &first)?;
+    recover::<Residues>(rt, &first, &[1, 3])?;
     let second = Dealing {
         dealer: 2,
         t: 2,
@@ -152,6 +206,7 @@ fn main(rt: LibcRuntime) -> io::Result<()> {
         ],
     };
     deal_in::<BinaryPolynomials>(rt, &second)?;
+    recover::<BinaryPolynomials>(rt, &second, &[5, 2, 4])?;
     let refused = Dealing {
         dealer: 1,
         t: 0,
