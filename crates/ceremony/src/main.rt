@@ -9,6 +9,7 @@ use dealing::report::DealingFromGroup;
 use dealing::trial::dealt_shares_open;
 use dealing::trial::test_share;
 use figures::figures_hold;
+use group::codes::codes_read_back;
 use group::group::Group;
 use group::powers::powers_obey_laws;
 use residues::Residues;
@@ -162,6 +163,7 @@ fn recover<G: Group>(rt: LibcRuntime, dealing: &Dealing, seats: &[u8]) -> io::Re
 
 fn main(rt: LibcRuntime) -> io::Result<()> {
     // These calls do nothing: their contracts are the theorems.
+    codes_read_back();
     powers_obey_laws();
     product_is_remainder();
     values_interpolate::<Residues, Share<Residues>>();

@@ -2,7 +2,7 @@
 ghost use mathlib.Core.Path.{_≡_};
 ghost use Prim.Native.Nat.{_+_, _≤_};
 ghost use lib.ListN.{length};
-ghost use Rattle.group.specs.Code.{codeAt, withCode};
+ghost use Rattle.group.specs.Code.{codeAt, withCode, Codes-read-back};
 ghost use Rattle.group.specs.Reading.{Reads, elementRefusal, scalarRefusal};
 use crate::fault::GroupFault;
 use crate::group::Group;
@@ -59,3 +59,8 @@ pub fn write_scalar<G: Group>(x: G::Scalar, out: &mut [u8], at: usize)
 {
     write_code(out, at, G::scalar_width(), G::scalar_number(x));
 }
+
+// Reading a code that was written gives its number back: a theorem, which its contract states.
+pub fn codes_read_back()
+    ensures { λ _. ⌜ Codes-read-back ⌝ }
+{}
