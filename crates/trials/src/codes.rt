@@ -6,10 +6,10 @@ use group::fault::GroupFault;
 use group::group::Group;
 
 // Where the code stands in the eight bytes.
-pub const PLACE: usize = 2;
+pub(super) const PLACE: usize = 2;
 
 // Eight bytes with the code of n at the place; the others are 0xAA.
-pub fn coded(n: u32, width: usize) -> [u8; 8]
+pub(super) fn coded(n: u32, width: usize) -> [u8; 8]
     requires { ⌜ width ≤ 4 ⌝ }
 {
     let mut bytes = [0xAA; 8];
@@ -21,13 +21,13 @@ pub fn coded(n: u32, width: usize) -> [u8; 8]
 }
 
 // The number of the element whose code stands at the place.
-pub fn element_read<G: Group>(bytes: &[u8; 8]) -> Result<u32, GroupFault> {
+pub(super) fn element_read<G: Group>(bytes: &[u8; 8]) -> Result<u32, GroupFault> {
     let element = read_element::<G>(bytes, PLACE)?;
     Ok(G::element_number(element))
 }
 
 // The number of the scalar whose code stands at the place.
-pub fn scalar_read<G: Group>(bytes: &[u8; 8]) -> Result<u32, GroupFault> {
+pub(super) fn scalar_read<G: Group>(bytes: &[u8; 8]) -> Result<u32, GroupFault> {
     let scalar = read_scalar::<G>(bytes, PLACE)?;
     Ok(G::scalar_number(scalar))
 }
