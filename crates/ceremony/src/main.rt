@@ -12,6 +12,10 @@ use figures::figures_hold;
 use group::codes::codes_read_back;
 use group::group::Group;
 use group::powers::powers_obey_laws;
+use protocol::theorems::letters_read_back;
+use protocol::theorems::records_read_back;
+use protocol::theorems::records_write_back;
+use protocol::theorems::sheets_read_back;
 use residues::Residues;
 use residues::ResiduesGroup;
 use sharing::commitment::Share;
@@ -173,6 +177,10 @@ fn main(rt: LibcRuntime) -> io::Result<()> {
     logarithms_unique();
     openings_differ();
     dealt_shares_open();
+    records_read_back();
+    records_write_back();
+    letters_read_back();
+    sheets_read_back();
     figures_hold();
     let first = Dealing {
         dealer: 1,

@@ -2,7 +2,7 @@
 use mathlib.Core.Path.{_≡_}
 use mathlib.Core.List.{List, [], _∷_}
 use Prim.Native.Nat.{ℕ}
-use Rattle.std.specs.declared.option.Option.the-variants.{Some}
+use Rattle.std.specs.declared.option.Option.the-variants.{Some, None}
 use Rattle.group.specs.declared.fault.GroupFault.the-variants.{NoCandidate, NoMember}
 use Rattle.group.specs.Meaning.{products}
 use Rattle.group.specs.Reading.{elementRefusal}
@@ -10,12 +10,44 @@ use Rattle.residues.specs.Residues.{residues}
 use Rattle.binary_polynomials.specs.Polynomials.{polynomials}
 use Rattle.sharing.specs.Value.{valueAt}
 use Rattle.sharing.specs.Commitment.{commitment}
+use Rattle.protocol.specs.declared.phase.Phase.the-variants.{Finished}
+use Rattle.protocol.specs.declared.fault.CeremonyFault.the-variants.{Parameter, SmallArea}
+use Rattle.protocol.specs.Board.{Board, empty, phaseOf, contested, revealedShare, key}
+use Rattle.protocol.specs.Refusals.{openingFault, afterOpening, replayed}
 use Rattle.dealing.specs.Record.{deal}
 use Rattle.dealing.specs.Dealing.{commitmentsOf, shareFor}
 
 -- a = (2, 1), b = (1, 0) as codes of group 1
 abbrev pub coefficients : List ℕ
 coefficients = 2 ∷ 0 ∷ 1 ∷ 0 ∷ 1 ∷ 0 ∷ 0 ∷ 0 ∷ []
+
+abbrev pub label : List ℕ
+label = 0 ∷ 0 ∷ 0 ∷ 0 ∷ 0 ∷ 0 ∷ 0 ∷ 0 ∷ 0 ∷ 0 ∷ 0 ∷ 0 ∷ 0 ∷ 0 ∷ 0 ∷ 0 ∷ []
+
+-- an Opening in group 1
+abbrev pub opening : ℕ → ℕ → List ℕ
+opening n t = 22 ∷ 0 ∷ 1 ∷ 0 ∷ 1 ∷ 0 ∷ n ∷ t ∷ label
+
+-- a ceremony in group 1 with n = 3 and t = 1: the Deals of 1, 2 and 3, no complaint, the Exposures of 1 and 2, and Reveals for 3 by 2 and by 1
+abbrev pub records : List (List ℕ)
+records =
+    (7 ∷ 0 ∷ 2 ∷ 0 ∷ 1 ∷ 0x90 ∷ 0 ∷ 4 ∷ 0 ∷ [])
+    ∷ (7 ∷ 0 ∷ 2 ∷ 0 ∷ 2 ∷ 64 ∷ 0 ∷ 16 ∷ 0 ∷ [])
+    ∷ (7 ∷ 0 ∷ 2 ∷ 0 ∷ 3 ∷ 68 ∷ 1 ∷ 16 ∷ 0 ∷ [])
+    ∷ (3 ∷ 0 ∷ 8 ∷ 0 ∷ 1 ∷ [])
+    ∷ (3 ∷ 0 ∷ 8 ∷ 0 ∷ 2 ∷ [])
+    ∷ (3 ∷ 0 ∷ 8 ∷ 0 ∷ 3 ∷ [])
+    ∷ (7 ∷ 0 ∷ 5 ∷ 0 ∷ 1 ∷ 16 ∷ 0 ∷ 4 ∷ 0 ∷ [])
+    ∷ (7 ∷ 0 ∷ 5 ∷ 0 ∷ 2 ∷ 64 ∷ 0 ∷ 16 ∷ 0 ∷ [])
+    ∷ (3 ∷ 0 ∷ 8 ∷ 0 ∷ 4 ∷ [])
+    ∷ (3 ∷ 0 ∷ 8 ∷ 0 ∷ 5 ∷ [])
+    ∷ (8 ∷ 0 ∷ 7 ∷ 0 ∷ 2 ∷ 3 ∷ 5 ∷ 0 ∷ 2 ∷ 0 ∷ [])
+    ∷ (8 ∷ 0 ∷ 7 ∷ 0 ∷ 1 ∷ 3 ∷ 3 ∷ 0 ∷ 2 ∷ 0 ∷ [])
+    ∷ (3 ∷ 0 ∷ 8 ∷ 0 ∷ 6 ∷ [])
+    ∷ []
+
+abbrev pub finished : Board
+finished = replayed residues (afterOpening residues empty 354 (opening 3 1)) records
 
 pub record Worked-figures : Type 0 where
   -- group 1: 4 · 510 is 1; the code 2038 is refused with reason 2, the codes 0 and 2039 with reason 1
@@ -30,3 +62,13 @@ pub record Worked-figures : Type 0 where
   pub share-2 : shareFor residues coefficients 2 2 ≡ (4, 1)
   pub committed-2 : commitment residues (4, 1) ≡ 265
   pub value-2 : valueAt (products residues) (commitmentsOf residues coefficients 2) 2 ≡ 265
+  -- group 1, n = 3, t = 1: an area of 354 bytes opens, 353 is too small; n = 1 with t = 0 opens, n = 2 with t = 1 and n = 33 do not
+  pub area-354 : openingFault residues empty 354 (opening 3 1) ≡ None
+  pub area-353 : openingFault residues empty 353 (opening 3 1) ≡ Some SmallArea
+  pub one-seat : openingFault residues empty 78 (opening 1 0) ≡ None
+  pub two-seats : openingFault residues empty 65536 (opening 2 1) ≡ Some (Parameter 7)
+  pub many-seats : openingFault residues empty 65536 (opening 33 1) ≡ Some (Parameter 6)
+  -- the ceremony of these records is finished; z is 1, and the key is 18
+  pub is-finished : phaseOf residues finished ≡ Finished
+  pub revealed-3 : revealedShare residues finished 3 ≡ (1, 2)
+  pub key-18 : key residues finished ≡ 18

@@ -12,7 +12,14 @@ use Rattle.residues.specs.Residues.{residues}
 use Rattle.residues.specs.ResidueLaws.{all-residues}
 use Rattle.binary_polynomials.specs.Polynomials.{sumOfShifts, timesZ}
 use Rattle.sharing.specs.Value.{sumFrom}
-use Rattle.sharing.specs.Codes.{decodedFrom}
+use Rattle.sharing.specs.Codes.{decodedFrom, refusedFrom}
+use Rattle.protocol.specs.declared.phase.Phase.the-variants.{Finished}
+use Rattle.protocol.specs.Seats.{count, every, some, those}
+use Rattle.protocol.specs.Record.{kindWith}
+use Rattle.protocol.specs.Board.{starts, phaseAfter, phaseOf, entry, passes1, passes2, qualified, answered, contested, reveals, revealedShare, allRevealed, keyPart, productOver, key}
+use Rattle.protocol.specs.Refusals.{firstFault, openingFault, replayed, postingFault, testsOf}
+use Rattle.sharing.specs.Interpolation.{weighted, weight, factor, inverse, firstFrom}
+use Rattle.figures.specs.Figures.{finished}
 use Rattle.dealing.specs.Record.{codes}
 use Rattle.figures.proofs.figures_hold.Needs as need
 
@@ -24,8 +31,20 @@ no-root = ap (λ (x : ℕ). true && eqb x 1) (power-computed all-residues 10 203
 refused-2038 : (place : ℕ) → elementRefusal residues 2038 place ≡ Some (NoMember place)
 refused-2038 place = ap (λ (member : Bool). cond member None (Some (NoMember place))) no-root
 
+phase-is : phaseOf residues finished ≡ Finished
+unfolding power code codeAt sumFrom decodedFrom firstFault openingFault phaseOf starts phaseAfter replayed postingFault testsOf entry passes1 passes2 qualified answered contested count every some those refusedFrom kindWith reveals allRevealed
+phase-is = refl
+
+revealed-is : revealedShare residues finished 3 ≡ (1, 2)
+unfolding power code codeAt sumFrom decodedFrom firstFault openingFault phaseOf starts phaseAfter replayed postingFault testsOf entry passes1 passes2 qualified answered contested count every some those refusedFrom kindWith reveals allRevealed weighted weight factor inverse firstFrom
+revealed-is = refl
+
+key-is : key residues finished ≡ 18
+unfolding power code codeAt sumFrom decodedFrom firstFault openingFault phaseOf starts phaseAfter replayed postingFault testsOf entry passes1 passes2 qualified answered contested count every some those refusedFrom kindWith reveals allRevealed weighted weight factor inverse firstFrom keyPart productOver
+key-is = refl
+
 pub returns : need.returns
-unfolding sumOfShifts timesZ power code codeAt codes sumFrom decodedFrom
+unfolding sumOfShifts timesZ power code codeAt codes sumFrom decodedFrom firstFault openingFault phaseOf starts phaseAfter
 returns c = record {
   product-1 = refl;
   no-member = refused-2038;
@@ -36,4 +55,12 @@ returns c = record {
   share-2 = refl;
   committed-2 = refl;
   value-2 = refl;
+  area-354 = refl;
+  area-353 = refl;
+  one-seat = refl;
+  two-seats = refl;
+  many-seats = refl;
+  is-finished = phase-is;
+  revealed-3 = revealed-is;
+  key-18 = key-is;
 }
