@@ -5,6 +5,8 @@ use mathlib.Core.List.{List}
 use Prim.Native.Nat.{ℕ, _+_, _*_}
 use Rattle.group.specs.Code.{codeAt}
 use Rattle.group.specs.Meaning.{Meaning, Lawful}
+use Rattle.protocol.specs.declared.kind.Kind.the-variants.{Deal}
+use Rattle.protocol.specs.Record.{Posted}
 use Rattle.sharing.specs.Linear.{scalarSum}
 use Rattle.sharing.specs.Value.{valueAt}
 use Rattle.sharing.specs.Codes.{decodedFrom}
@@ -18,6 +20,10 @@ scalarsFrom m bytes at count = decodedFrom (λ place. codeAt bytes (m .s) place)
 abbrev pub commitmentsOf : Meaning → List ℕ → ℕ → List ℕ
 commitmentsOf m bytes count =
     decodedFrom (λ place. commitment m (codeAt bytes (m .s) place, codeAt bytes (m .s) (place + count * m .s))) (m .s) 0 count
+
+-- the Deal of a dealer
+abbrev pub dealOf : ℕ → List ℕ → Posted
+dealOf seat commitments = record { kind = Deal; writer = seat; second = 0; codes = commitments }
 
 -- the share for a seat: the values there of a_0 .. a_t and of b_0 .. b_t
 abbrev pub shareFor : Meaning → List ℕ → ℕ → ℕ → ℕ × ℕ

@@ -17,8 +17,8 @@ use Rattle.group.specs.Reading as reading
 use Rattle.sharing.specs.Value.{valueAt}
 use Rattle.sharing.specs.Codes.{firstOf, decodedFrom, refusedFrom, scalarRefused, elementRefused}
 use Rattle.sharing.specs.Commitment.{commitment}
-use Rattle.dealing.specs.Record.{deal}
-use Rattle.dealing.specs.Dealing.{commitmentsOf, shareFor}
+use Rattle.protocol.specs.Record.{writeRecord}
+use Rattle.dealing.specs.Dealing.{commitmentsOf, dealOf, shareFor}
 use Rattle.dealing.specs.declared.sides.Sides.{Sides}
 use Rattle.dealing.specs.declared.fault.DealingFault.{DealingFault}
 use Rattle.dealing.specs.declared.fault.DealingFault.the-variants.{Length, Code, Output}
@@ -64,7 +64,7 @@ drawnUp m coefficients count room written =
 -- what drawing up a Deal answers: the record
 abbrev pub dealDrawnUp : Meaning → ℕ → ℕ → List ℕ → ℕ → Result (List ℕ) DealingFault
 dealDrawnUp m seat count coefficients room =
-    drawnUp m coefficients count room (deal (m .w) seat (commitmentsOf m coefficients count))
+    drawnUp m coefficients count room (writeRecord m (dealOf seat (commitmentsOf m coefficients count)))
 
 -- what drawing up a share answers: the codes of s and s′
 abbrev pub shareDrawnUp : Meaning → ℕ → List ℕ → ℕ → ℕ → Result (List ℕ) DealingFault

@@ -6,7 +6,7 @@ ghost use lib.Seq.{paste};
 ghost use Rattle.std.specs.declared.option.Option.the-variants.{None};
 ghost use Rattle.std.specs.declared.result.Result.the-variants.{Ok};
 ghost use Rattle.sharing.specs.Codes.{refusedFrom, scalarRefused};
-ghost use Rattle.dealing.specs.Record.{codes};
+ghost use Rattle.protocol.specs.Record.{codesOf};
 ghost use Rattle.dealing.specs.Dealing.{commitmentsOf, shareFor};
 ghost use Rattle.dealing.specs.Refusals.{Writes, wherePassed, dealDrawnUp, shareDrawnUp};
 use crate::fault::DealingFault;
@@ -41,7 +41,7 @@ fn write_commitments<G: Group>(coefficients: &[u8], count: usize, out: &mut [u8]
     requires given { ⌜ length (now coefficients) ≡ 2 * (count * meaning .s) ⌝ }
     requires taken { ⌜ refusedFrom (scalarRefused meaning (now coefficients)) (meaning .s) 0 (2 * count) ≡ None ⌝ }
     requires room { ⌜ at + count * meaning .w ≤ length (now out) ⌝ }
-    ensures { λ _. ⌜ now (out .exit) ≡ paste (now (out .entry)) at (codes (meaning .w) (commitmentsOf meaning (now (coefficients .entry)) count)) (count * meaning .w) ⌝ }
+    ensures { λ _. ⌜ now (out .exit) ≡ paste (now (out .entry)) at (codesOf (meaning .w) (commitmentsOf meaning (now (coefficients .entry)) count)) (count * meaning .w) ⌝ }
 {
     let s = G::scalar_width();
     let w = G::width();

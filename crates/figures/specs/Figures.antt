@@ -14,8 +14,8 @@ use Rattle.protocol.specs.declared.phase.Phase.the-variants.{Finished}
 use Rattle.protocol.specs.declared.fault.CeremonyFault.the-variants.{Parameter, SmallArea}
 use Rattle.protocol.specs.Board.{Board, empty, phaseOf, contested, revealedShare, key}
 use Rattle.protocol.specs.Refusals.{openingFault, afterOpening, replayed}
-use Rattle.dealing.specs.Record.{deal}
-use Rattle.dealing.specs.Dealing.{commitmentsOf, shareFor}
+use Rattle.protocol.specs.Record.{writeRecord}
+use Rattle.dealing.specs.Dealing.{commitmentsOf, dealOf, shareFor}
 
 -- a = (2, 1), b = (1, 0) as codes of group 1
 abbrev pub coefficients : List ℕ
@@ -58,7 +58,7 @@ pub record Worked-figures : Type 0 where
   -- group 2: 65536 · 2 is 9
   pub product-2 : polynomials .product 65536 2 ≡ 9
   -- group 1, t = 1, seat 1: the Deal, the share for seat 2, and both sides of equation 1
-  pub deal-bytes : deal 2 1 (commitmentsOf residues coefficients 2) ≡ 7 ∷ 0 ∷ 2 ∷ 0 ∷ 1 ∷ 0x90 ∷ 0 ∷ 4 ∷ 0 ∷ []
+  pub deal-bytes : writeRecord residues (dealOf 1 (commitmentsOf residues coefficients 2)) ≡ 7 ∷ 0 ∷ 2 ∷ 0 ∷ 1 ∷ 0x90 ∷ 0 ∷ 4 ∷ 0 ∷ []
   pub share-2 : shareFor residues coefficients 2 2 ≡ (4, 1)
   pub committed-2 : commitment residues (4, 1) ≡ 265
   pub value-2 : valueAt (products residues) (commitmentsOf residues coefficients 2) 2 ≡ 265

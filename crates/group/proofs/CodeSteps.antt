@@ -33,11 +33,6 @@ read-more bytes n j i at next e f h =
 
 -- Writing: what is left of n spells the bytes that are left.
 
-pub length-code : (w n : ℕ) → length (code w n) ≡ w
-unfolding code
-length-code zero n = refl
-length-code (suc w) n = ap suc (length-code w (n / 256))
-
 -- the next byte, where what is left of n spells the bytes from i on
 pub byte-of : (w n i left j : ℕ) → drop i (code w n) ≡ code (suc j) left → getD (code w n) i 0 ≡ left % 256
 unfolding code

@@ -8,7 +8,7 @@ use lib.ListN.{length, getD, take, drop, length-append}
 use Rattle.std.proofs.shelf.Edits.{paste-all}
 use Rattle.std.proofs.shelf.Lists.{getD-at, length-take-le}
 use Rattle.group.specs.Code.{code, codeAt, withCode, Codes-read-back}
-use Rattle.group.proofs.CodeSteps.{length-code}
+use Rattle.group.specs.CodeLaws.{code-length}
 
 pub code-between : (before after : List ℕ) (w n : ℕ) → n < 256 ^ w → codeAt (before ++ (code w n ++ after)) w (length before) ≡ n
 unfolding code codeAt
@@ -26,5 +26,5 @@ code-between before after (suc w) n h =
 pub codes-read-back : Codes-read-back
 codes-read-back bytes w at n within small =
     let front = length-take-le at bytes (omega arith) in
-    ap₂ (λ (xs : List ℕ) (place : ℕ). codeAt xs w place) (paste-all bytes at (code w n) w (sym (length-code w n))) (sym front)
+    ap₂ (λ (xs : List ℕ) (place : ℕ). codeAt xs w place) (paste-all bytes at (code w n) w (sym (code-length w n))) (sym front)
     ∙ code-between (take at bytes) (drop (at + w) bytes) w n small

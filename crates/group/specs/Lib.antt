@@ -4,6 +4,7 @@ pub mod Code
 pub mod Reading
 pub mod Subgroup
 pub mod Powers
+pub mod CodeLaws
 pub mod PowerLaws
 pub mod ModularLaws
 pub mod SubgroupLaws

@@ -9,7 +9,8 @@ use lib.Seq.{drop-drop, drop-append-seam, getD-drop}
 use Rattle.std.specs.shelf.Lists.{All}
 use Rattle.group.specs.Code.{code, codeAt}
 use Rattle.sharing.specs.Codes.{decodedFrom}
-use Rattle.sharing.specs.LinearLaws.{code-length, join}
+use Rattle.group.specs.CodeLaws.{code-length}
+use Rattle.sharing.specs.LinearLaws.{join}
 use Rattle.protocol.specs.Record.{codesOf}
 use Rattle.protocol.specs.Custodian.{pairCodes}
 

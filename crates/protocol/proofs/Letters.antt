@@ -7,7 +7,8 @@ use lib.ListN.{length, take, drop, length-append}
 use lib.Seq.{take-at}
 use Rattle.group.specs.Code.{code}
 use Rattle.group.specs.Meaning.{Meaning}
-use Rattle.sharing.specs.LinearLaws.{code-length, join}
+use Rattle.group.specs.CodeLaws.{code-length}
+use Rattle.sharing.specs.LinearLaws.{join}
 use Rattle.protocol.specs.declared.kind.Kind.the-variants as kinds
 use Rattle.protocol.specs.Custodian.{Letter, readLetter}
 use Rattle.protocol.specs.ReadBack.{LetterFits, Letters-read-back}

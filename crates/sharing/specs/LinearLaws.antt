@@ -18,11 +18,6 @@ use Rattle.group.specs.Monoid.{Monoid, power, Commutative}
 use Rattle.sharing.specs.Linear.{scaled, Exponent, scalarSum, pairSum, bothMembers}
 use Rattle.sharing.specs.Codes.{firstOf, elementRefused, scalarRefused}
 
-pub code-length : (w n : ℕ) → length (code w n) ≡ w
-unfolding code
-code-length zero n = refl
-code-length (suc w) n = ap suc (code-length w (n / 256))
-
 -- Scalars.
 
 sum-commutative : (q : ℕ) → 0 < q → Commutative (λ x. ltb x q) (scalarSum q)

@@ -15,12 +15,11 @@ use Rattle.sharing.specs.Value.{sumFrom}
 use Rattle.sharing.specs.Codes.{decodedFrom, refusedFrom}
 use Rattle.protocol.specs.declared.phase.Phase.the-variants.{Finished}
 use Rattle.protocol.specs.Seats.{count, every, some, those}
-use Rattle.protocol.specs.Record.{kindWith}
+use Rattle.protocol.specs.Record.{kindWith, codesOf}
 use Rattle.protocol.specs.Board.{starts, phaseAfter, phaseOf, entry, passes1, passes2, qualified, answered, contested, reveals, revealedShare, allRevealed, keyPart, productOver, key}
 use Rattle.protocol.specs.Refusals.{firstFault, openingFault, replayed, postingFault, testsOf}
 use Rattle.sharing.specs.Interpolation.{weighted, weight, factor, inverse, firstFrom}
 use Rattle.figures.specs.Figures.{finished}
-use Rattle.dealing.specs.Record.{codes}
 use Rattle.figures.proofs.figures_hold.Needs as need
 
 -- 2038^1019 is 2038, not 1
@@ -44,7 +43,7 @@ unfolding power code codeAt sumFrom decodedFrom firstFault openingFault phaseOf 
 key-is = refl
 
 pub returns : need.returns
-unfolding sumOfShifts timesZ power code codeAt codes sumFrom decodedFrom firstFault openingFault phaseOf starts phaseAfter
+unfolding sumOfShifts timesZ power code codeAt codesOf sumFrom decodedFrom firstFault openingFault phaseOf starts phaseAfter
 returns c = record {
   product-1 = refl;
   no-member = refused-2038;

@@ -6,10 +6,10 @@ use lib.ListN.{length}
 use lib.Seq.{paste}
 use Rattle.std.specs.declared.result.Result.the-variants.{Ok}
 use Rattle.group.specs.Code.{code}
-use Rattle.dealing.specs.Record.{codes, deal}
+use Rattle.protocol.specs.Record.{codesOf}
 use Rattle.dealing.specs.Dealing.{commitmentsOf}
 use Rattle.dealing.specs.Refusals.{Writes}
-use Rattle.dealing.proofs.CodeLists.{decoded-length, deal-length, deal-pasted}
+use Rattle.dealing.proofs.CodeLists.{deal, decoded-length, deal-length, deal-pasted}
 use Rattle.dealing.proofs.Passing.{written, refused, drawn-up, no-room}
 use Rattle.dealing.proofs.deal.draw_up_deal.Needs as need
 
@@ -36,7 +36,7 @@ returns g c =
     let wide = ap (λ (w : ℕ). n * w) (c .width .ensures) in
     let size : 5 + n * c .width .result ≡ 5 + n * m .w = omega (arith, wide) in
     let outcome = drawn-up m bytes n (sym (c .check-coefficients .ensures) ∙ c .in-Continue-check-coefficients .was tt) (length out) record′ (omega (arith, long, wide, c .if-out-size .left)) in
-    let body = codes (m .w) commitments in
+    let body = codesOf (m .w) commitments in
     let pasted =
     c .write-commitments .ensures
     ∙ ap (λ (d : List ℕ). paste d 5 body (n * m .w))

@@ -9,7 +9,7 @@ use Rattle.group.specs.Code.{code}
 use Rattle.sharing.specs.Linear.{scalarSum}
 use Rattle.sharing.specs.Value.{valueAt}
 use Rattle.sharing.specs.Codes.{refusedFrom, scalarRefused}
-use Rattle.sharing.specs.LinearLaws.{code-length}
+use Rattle.group.specs.CodeLaws.{code-length}
 use Rattle.sharing.proofs.CodeWalk.{taken-front, taken-rest}
 use Rattle.dealing.specs.Dealing.{scalarsFrom, shareFor}
 use Rattle.dealing.proofs.Passing.{written, refused, drawn-up, no-room, passed-length, passed-codes}

@@ -10,7 +10,7 @@ use Rattle.group.specs.Code.{code, codeAt}
 use Rattle.sharing.specs.Codes.{decodedFrom, scalarRefused}
 use Rattle.sharing.specs.Commitment.{commitment}
 use Rattle.sharing.proofs.CodeWalk.{room, taken-at}
-use Rattle.dealing.specs.Record.{codes}
+use Rattle.protocol.specs.Record.{codesOf}
 use Rattle.dealing.proofs.CodeLists.{paste-code}
 use Rattle.dealing.proofs.deal.write_commitments.Needs as need
 
@@ -54,7 +54,7 @@ write-element-requires g c κs =
 pub loop-k-holds : need.loop-k-holds
 loop-k-holds g c =
     let m = g .G·Group .meaning in
-    let none = codes (m .w) (decodedFrom (λ place. commitment m (codeAt (c .args .coefficients .now) (m .s) place, codeAt (c .args .coefficients .now) (m .s) (place + c .args .count * m .s))) (m .s) 0 0) in
+    let none = codesOf (m .w) (decodedFrom (λ place. commitment m (codeAt (c .args .coefficients .now) (m .s) place, codeAt (c .args .coefficients .now) (m .s) (place + c .args .count * m .s))) (m .s) 0 0) in
     paste-none (c .args .out .now) (c .args .at) none ∙ ap (paste (c .args .out .now) (c .args .at) none) (sym (zero-mul (m .w)))
 
 pub loop-k-again : need.loop-k-again

@@ -6,7 +6,8 @@ use lib.ListN.{length, set}
 use lib.Seq.{paste}
 use Rattle.std.proofs.shelf.Edits.{paste-none, paste-more}
 use Rattle.group.specs.Code.{code}
-use Rattle.group.proofs.CodeSteps.{length-code, byte-of, rest-of}
+use Rattle.group.specs.CodeLaws.{code-length}
+use Rattle.group.proofs.CodeSteps.{byte-of, rest-of}
 use Rattle.group.proofs.codes.write_code.Needs as need
 
 pub loop-k-holds : need.loop-k-holds
@@ -25,7 +26,7 @@ loop-k-again c =
     let next : w - k ≡ suc (w - (k + 1)) = omega arith in
     let rest = c .loop-k .inv .1 ∙ ap (λ (j : ℕ). code j left) next in
     let byte = byte-of w n k left (w - (k + 1)) rest in
-    let inside : k < length (code w n) = omega (arith, length-code w n) in (
+    let inside : k < length (code w n) = omega (arith, code-length w n) in (
       ap (λ (xs : List ℕ). set xs (at + k) (left % 256)) (c .loop-k .inv .0)
           ∙ ap (set (paste out at (code w n) k) (at + k)) (sym byte)
           ∙ paste-more out at (code w n) k 0 (omega (arith, c .pre)) inside,
