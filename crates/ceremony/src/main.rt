@@ -12,6 +12,7 @@ use figures::figures_hold;
 use group::codes::codes_read_back;
 use group::group::Group;
 use group::powers::powers_obey_laws;
+use guarantee::guarantee_holds;
 use protocol::theorems::letters_read_back;
 use protocol::theorems::records_read_back;
 use protocol::theorems::records_write_back;
@@ -181,6 +182,7 @@ fn main(rt: LibcRuntime) -> io::Result<()> {
     records_write_back();
     letters_read_back();
     sheets_read_back();
+    guarantee_holds();
     figures_hold();
     let first = Dealing {
         dealer: 1,
