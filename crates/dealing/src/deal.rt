@@ -24,13 +24,20 @@ use sharing::pair::PairLinear;
 use sharing::scalar::Scalar;
 use sharing::scalar::ScalarLinear;
 
-// Tests the coefficients: their length for `count` of each row, then their codes in order.
-fn check_coefficients<G: Group>(coefficients: &[u8], count: usize) -> Result<(), DealingFault>
+// Tests the coefficients and a seat: the length for `count` of each row, the seat, then the codes in order.
+fn check_coefficients<G: Group>(
+    coefficients: &[u8],
+    count: usize,
+    seat: u8,
+) -> Result<(), DealingFault>
     requires { ⌜ count ≤ 256 ⌝ }
-    ensures { λ r. ⌜ r ≡ wherePassed meaning (now (coefficients .entry)) count (Ok tt) ⌝ }
+    ensures { λ r. ⌜ r ≡ wherePassed meaning (now (coefficients .entry)) count seat (Ok tt) ⌝ }
 {
     if coefficients.len() != 2 * (count * G::scalar_width()) {
         return Err(DealingFault::Length);
+    }
+    if seat < 1 || seat > 32 {
+        return Err(DealingFault::NoSeat);
     }
     judge_codes::<G, Scalar<G, G::Scalar>>(coefficients, 0, 2 * count)?;
     Ok(())
@@ -62,7 +69,7 @@ pub fn draw_up_deal<G: Group>(
     ensures { λ r. ⌜ Writes (dealDrawnUp meaning seat (t + 1) (now (coefficients .entry)) (length (now (out .entry)))) (now (out .entry)) r (now (out .exit)) ⌝ }
 {
     let count = t as usize + 1;
-    check_coefficients::<G>(coefficients, count)?;
+    check_coefficients::<G>(coefficients, count, seat)?;
     let size = 5 + count * G::width();
     if out.len() < size {
         return Err(DealingFault::Output);
@@ -84,7 +91,7 @@ pub fn draw_up_share<G: Group>(
     ensures { λ r. ⌜ Writes (shareDrawnUp meaning (t + 1) (now (coefficients .entry)) seat (length (now (out .entry)))) (now (out .entry)) r (now (out .exit)) ⌝ }
 {
     let count = t as usize + 1;
-    check_coefficients::<G>(coefficients, count)?;
+    check_coefficients::<G>(coefficients, count, seat)?;
     let s = G::scalar_width();
     if out.len() < 2 * s {
         return Err(DealingFault::Output);

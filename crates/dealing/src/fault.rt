@@ -7,6 +7,8 @@ use group::fault::GroupFaultPartialEq;
 pub enum DealingFault {
     // The codes handed over are not as many bytes as t asks for.
     Length,
+    // The seat is not 1 to 32. The value at 0 is the secret itself.
+    NoSeat,
     Code(GroupFault),
     // The output is too small.
     Output,

@@ -11,6 +11,7 @@ impl DealingFault {
     {
         match self {
             DealingFault::Length => 3,
+            DealingFault::NoSeat => 5,
             DealingFault::Code(_) => 9,
             DealingFault::Output => 14,
         }
@@ -21,7 +22,7 @@ impl DealingFault {
     {
         match self {
             DealingFault::Code(fault) => fault.place(),
-            DealingFault::Length | DealingFault::Output => 0,
+            DealingFault::Length | DealingFault::NoSeat | DealingFault::Output => 0,
         }
     }
 
@@ -30,7 +31,7 @@ impl DealingFault {
     {
         match self {
             DealingFault::Code(fault) => fault.reason(),
-            DealingFault::Length | DealingFault::Output => 0,
+            DealingFault::Length | DealingFault::NoSeat | DealingFault::Output => 0,
         }
     }
 }

@@ -29,6 +29,9 @@ pub fn test_share<G: Group>(
     if commitments.len() != count * G::width() || share.len() != 2 * G::scalar_width() {
         return Err(DealingFault::Length);
     }
+    if seat < 1 || seat > 32 {
+        return Err(DealingFault::NoSeat);
+    }
     let value = evaluate::<G, Element<G, G::Element>>(commitments, 0, count, seat)?;
     let opening = <Share<G> as Linear<G>>::read(share, 0)?;
     Ok(Sides {

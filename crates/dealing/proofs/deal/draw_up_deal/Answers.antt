@@ -21,7 +21,7 @@ returns-then-out-size g c =
     let record′ = deal (m .w) (c .args .seat) (commitmentsOf m bytes n) in
     let long = deal-length (m .w) (c .args .seat) (commitmentsOf m bytes n) n (decoded-length _ (m .s) 0 n) in
     let wide = ap (λ (w : ℕ). n * w) (c .width .ensures) in
-    refused (no-room m bytes n (sym (c .check-coefficients .ensures) ∙ c .in-Continue-check-coefficients .was tt) (length (c .args .out .now)) record′ (omega (arith, long, wide, c .if-out-size .taken))) (c .args .out .now)
+    refused (no-room m bytes n (c .args .seat) (sym (c .check-coefficients .ensures) ∙ c .in-Continue-check-coefficients .was tt) (length (c .args .out .now)) record′ (omega (arith, long, wide, c .if-out-size .taken))) (c .args .out .now)
 
 pub returns : need.returns
 returns g c =
@@ -35,7 +35,7 @@ returns g c =
     let long = deal-length (m .w) (c .args .seat) commitments n many in
     let wide = ap (λ (w : ℕ). n * w) (c .width .ensures) in
     let size : 5 + n * c .width .result ≡ 5 + n * m .w = omega (arith, wide) in
-    let outcome = drawn-up m bytes n (sym (c .check-coefficients .ensures) ∙ c .in-Continue-check-coefficients .was tt) (length out) record′ (omega (arith, long, wide, c .if-out-size .left)) in
+    let outcome = drawn-up m bytes n (c .args .seat) (sym (c .check-coefficients .ensures) ∙ c .in-Continue-check-coefficients .was tt) (length out) record′ (omega (arith, long, wide, c .if-out-size .left)) in
     let body = codesOf (m .w) commitments in
     let pasted =
     c .write-commitments .ensures

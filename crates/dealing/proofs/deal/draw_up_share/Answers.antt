@@ -22,8 +22,8 @@ value-of-known-left-requires g c κs =
     let bytes = c .args .coefficients .now in
     let passed = sym (c .check-coefficients .ensures) ∙ c .in-Continue-check-coefficients .was tt in
     record {
-      within = omega (arith, passed-length m bytes n passed);
-      taken = taken-front (scalarRefused m bytes) (m .s) 0 n (2 * n) (omega arith) (passed-codes m bytes n passed);
+      within = omega (arith, passed-length m bytes n (c .args .seat) passed);
+      taken = taken-front (scalarRefused m bytes) (m .s) 0 n (2 * n) (omega arith) (passed-codes m bytes n (c .args .seat) passed);
     }
 
 pub value-of-known-right-requires : need.value-of-known-right-requires
@@ -35,8 +35,8 @@ value-of-known-right-requires g c κs =
     let place : 0 + n * m .s ≡ n * c .scalar-width-s .result = zero-add (n * m .s) ∙ ap (λ (w : ℕ). n * w) (sym (c .scalar-width-s .ensures)) in
     let left : 2 * n - n ≡ n = omega arith in
     record {
-      within = omega (arith, passed-length m bytes n passed, place, zero-add (n * m .s));
-      taken = sym (ap₂ (refusedFrom (scalarRefused m bytes) (m .s)) place left) ∙ taken-rest (scalarRefused m bytes) (m .s) n 0 (2 * n) (omega arith) (passed-codes m bytes n passed);
+      within = omega (arith, passed-length m bytes n (c .args .seat) passed, place, zero-add (n * m .s));
+      taken = sym (ap₂ (refusedFrom (scalarRefused m bytes) (m .s)) place left) ∙ taken-rest (scalarRefused m bytes) (m .s) n 0 (2 * n) (omega arith) (passed-codes m bytes n (c .args .seat) passed);
     }
 
 pub returns-then-out-s : need.returns-then-out-s
@@ -49,7 +49,7 @@ returns-then-out-s g c =
     let b = code (m .s) (share .1) in
     let long = length-append a b in
     let passed = sym (c .check-coefficients .ensures) ∙ c .in-Continue-check-coefficients .was tt in
-    refused (no-room m bytes n passed (length (c .args .out .now)) (a ++ b) (omega (arith, long, code-length (m .s) (share .0), code-length (m .s) (share .1), c .scalar-width-s .ensures, c .if-out-s .taken))) (c .args .out .now)
+    refused (no-room m bytes n (c .args .seat) passed (length (c .args .out .now)) (a ++ b) (omega (arith, long, code-length (m .s) (share .0), code-length (m .s) (share .1), c .scalar-width-s .ensures, c .if-out-s .taken))) (c .args .out .now)
 
 pub returns : need.returns
 returns g c =
@@ -62,7 +62,7 @@ returns g c =
     let b = code (m .s) (share .1) in
     let long : 2 * c .scalar-width-s .result ≡ length (a ++ b) = omega (arith, length-append a b, code-length (m .s) (share .0), code-length (m .s) (share .1), c .scalar-width-s .ensures) in
     let passed = sym (c .check-coefficients .ensures) ∙ c .in-Continue-check-coefficients .was tt in
-    let outcome = drawn-up m bytes n passed (length out) (a ++ b) (omega (arith, long, c .if-out-s .left)) in
+    let outcome = drawn-up m bytes n (c .args .seat) passed (length out) (a ++ b) (omega (arith, long, c .if-out-s .left)) in
     let left = c .value-of-known-left .ensures in
     let right = c .value-of-known-right .ensures ∙ ap (λ (w : ℕ). valueAt (scalarSum (m .q)) (scalarsFrom m bytes (n * w) n) (c .args .seat)) (c .scalar-width-s .ensures) in
     let size : m .s + m .s ≡ length (a ++ b) = omega (arith, long, c .scalar-width-s .ensures) in
