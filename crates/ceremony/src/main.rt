@@ -13,6 +13,7 @@ use group::codes::codes_read_back;
 use group::group::Group;
 use group::powers::powers_obey_laws;
 use guarantee::guarantee_holds;
+use guarantee::guarantee_is_met;
 use protocol::theorems::letters_read_back;
 use protocol::theorems::records_read_back;
 use protocol::theorems::records_write_back;
@@ -183,6 +184,7 @@ fn main(rt: LibcRuntime) -> io::Result<()> {
     letters_read_back();
     sheets_read_back();
     guarantee_holds();
+    guarantee_is_met();
     figures_hold();
     let first = Dealing {
         dealer: 1,

@@ -22,19 +22,19 @@ abbrev blank : List ℕ
 blank = replicate 16 0
 
 -- the front of a frame with a label: twenty bytes behind what stands before
-abbrev front : List ℕ → ℕ → ℕ → List ℕ → List ℕ
+abbrev pub front : List ℕ → ℕ → ℕ → List ℕ → List ℕ
 front before n kind label = before ++ (code 2 n ++ (code 2 kind ++ label))
 
-front-length : (before : List ℕ) (n kind : ℕ) (label : List ℕ) → length label ≡ 16 → length (front before n kind label) ≡ length before + 20
+pub front-length : (before : List ℕ) (n kind : ℕ) (label : List ℕ) → length label ≡ 16 → length (front before n kind label) ≡ length before + 20
 front-length before n kind label e =
     length-append before (code 2 n ++ (code 2 kind ++ label))
     ∙ ap (λ (z : ℕ). length before + z) (length-append (code 2 n) (code 2 kind ++ label) ∙ ap₂ _+_ (length-code 2 n) (length-append (code 2 kind) label ∙ ap₂ _+_ (length-code 2 kind) e))
 
-front-all : (before : List ℕ) (n kind : ℕ) (label rest after : List ℕ)
+pub front-all : (before : List ℕ) (n kind : ℕ) (label rest after : List ℕ)
     → before ++ ((code 2 n ++ (code 2 kind ++ (label ++ rest))) ++ after) ≡ front before n kind label ++ (rest ++ after)
 front-all before n kind label rest after = simp append-assoc
 
-label-in : (before : List ℕ) (n kind : ℕ) (label rest : List ℕ) (p : ℕ) → length label ≡ 16 → p ≡ length before + 4 → take 16 (drop p (front before n kind label ++ rest)) ≡ label
+pub label-in : (before : List ℕ) (n kind : ℕ) (label rest : List ℕ) (p : ℕ) → length label ≡ 16 → p ≡ length before + 4 → take 16 (drop p (front before n kind label ++ rest)) ≡ label
 label-in before n kind label rest p e at =
     let head : List ℕ = before ++ (code 2 n ++ code 2 kind) in
     let long : length head ≡ p =
@@ -55,7 +55,7 @@ pairs-behind m ahead rest p k (suc n) e =
 
 -- Sheets.
 
-sheet-is : (l l′ : List ℕ) (a a′ : ℕ) (p p′ : List (ℕ × ℕ)) → l ≡ l′ → a ≡ a′ → p ≡ p′
+pub sheet-is : (l l′ : List ℕ) (a a′ : ℕ) (p p′ : List (ℕ × ℕ)) → l ≡ l′ → a ≡ a′ → p ≡ p′
     → _≡_ {A = Sheet} (record { label = l; seat = a; shares = p }) (record { label = l′; seat = a′; shares = p′ })
 sheet-is l l′ a a′ p p′ e f g = cc
 
@@ -111,7 +111,7 @@ sheet-reads m laws back s small = record { size = size; reads = reads }
 
 -- Letters.
 
-letter-is : (l l′ : List ℕ) (a a′ c c′ x x′ y y′ : ℕ) → l ≡ l′ → a ≡ a′ → c ≡ c′ → x ≡ x′ → y ≡ y′
+pub letter-is : (l l′ : List ℕ) (a a′ c c′ x x′ y y′ : ℕ) → l ≡ l′ → a ≡ a′ → c ≡ c′ → x ≡ x′ → y ≡ y′
     → _≡_ {A = Letter} (record { label = l; writer = a; addressee = c; share = (x, y) }) (record { label = l′; writer = a′; addressee = c′; share = (x′, y′) })
 letter-is l l′ a a′ c c′ x x′ y y′ e f g h i = cc
 

@@ -23,3 +23,5 @@ pub mod Wanting
 pub mod Upheld
 pub mod Complete
 pub mod Whole
+pub mod SmallGroup
+pub mod Example

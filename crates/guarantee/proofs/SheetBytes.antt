@@ -42,11 +42,11 @@ code-behind front l zero p k e = refl
 code-behind front l (suc w) p k e =
     ap₂ (λ (x y : ℕ). x + 256 * y) (ap (λ (z : ℕ). getD (front ++ l) z 0) e ∙ getD-append-add front l k 0) (code-behind front l w (p + 1) (k + 1) (omega arith))
 
-two-bytes : (n : ℕ) (l : List ℕ) → n < 65536 → codeAt (code 2 n ++ l) 2 0 ≡ n
+pub two-bytes : (n : ℕ) (l : List ℕ) → n < 65536 → codeAt (code 2 n ++ l) 2 0 ≡ n
 unfolding codeAt code
 two-bytes n l h = omega arith
 
-two-more : (n k : ℕ) (l : List ℕ) → k < 65536 → codeAt (code 2 n ++ (code 2 k ++ l)) 2 2 ≡ k
+pub two-more : (n k : ℕ) (l : List ℕ) → k < 65536 → codeAt (code 2 n ++ (code 2 k ++ l)) 2 2 ≡ k
 unfolding codeAt code
 two-more n k l h = omega arith
 
