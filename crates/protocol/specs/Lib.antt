@@ -6,3 +6,6 @@ pub mod Readings
 pub mod Custodian
 pub mod Recovery
 pub mod ReadBack
+pub mod History
+pub mod Guarantee
+pub mod Met
