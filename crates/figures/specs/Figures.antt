@@ -11,9 +11,13 @@ use Rattle.binary_polynomials.specs.Polynomials.{polynomials}
 use Rattle.sharing.specs.Value.{valueAt}
 use Rattle.sharing.specs.Commitment.{commitment}
 use Rattle.protocol.specs.declared.phase.Phase.the-variants.{Finished}
-use Rattle.protocol.specs.declared.fault.CeremonyFault.the-variants.{Parameter, SmallArea}
+use Rattle.protocol.specs.declared.fault.CeremonyFault.the-variants.{Parameter, SmallArea, SmallOutput}
+use Rattle.protocol.specs.declared.fault.CustodianFault.the-variants.{TooSmall}
+use Rattle.protocol.specs.declared.state.SeatState.the-variants.{Qualified, Contested}
 use Rattle.protocol.specs.Board.{Board, empty, phaseOf, contested, revealedShare, key}
-use Rattle.protocol.specs.Refusals.{openingFault, afterOpening, replayed}
+use Rattle.protocol.specs.Refusals.{openingFault, afterOpening, replayed, equationsReplayed, reportOf}
+use Rattle.protocol.specs.Readings.{stateOf, seatListFault, keyFault}
+use Rattle.protocol.specs.Custodian.{custodianReport}
 use Rattle.protocol.specs.Record.{writeRecord}
 use Rattle.dealing.specs.Dealing.{commitmentsOf, dealOf, shareFor}
 
@@ -72,3 +76,13 @@ pub record Worked-figures : Type 0 where
   pub is-finished : phaseOf residues finished ≡ Finished
   pub revealed-3 : revealedShare residues finished 3 ≡ (1, 2)
   pub key-18 : key residues finished ≡ 18
+  -- the seats of that ceremony, and the equations tested: one for each Reveal
+  pub state-1 : stateOf residues finished 1 ≡ Qualified
+  pub state-3 : stateOf residues finished 3 ≡ Contested
+  pub no-room : seatListFault residues finished 2 ≡ Some SmallOutput
+  pub key-room : keyFault residues finished 2 ≡ None
+  pub equations : equationsReplayed residues (afterOpening residues empty 354 (opening 3 1)) records ≡ 2
+  -- a small area is refusal 13, a field outside its limits 12, a small store 14
+  pub number-13 : reportOf SmallArea .number ≡ 13
+  pub number-12 : reportOf (Parameter 7) .number ≡ 12
+  pub number-14 : custodianReport TooSmall .number ≡ 14

@@ -25,7 +25,7 @@ use Rattle.protocol.specs.declared.fault.CustodianFault.the-variants.{Ceremony
 use Rattle.protocol.specs.Seats.{isSeat, lowest, holds, mapped, orElse}
 use Rattle.protocol.specs.Record.{Posted, framed, kindNumber, lengthField, kindField, codesOf, writeRecord}
 use Rattle.protocol.specs.Board.{Board, phaseOf, phaseNumber, entry, has, dealOf, exposureOf, complained, objected, revealed, shareIn, shares, passes1, passes2, qualified, contested, dealers}
-use Rattle.protocol.specs.Refusals.{unless, firstFault, isFramed}
+use Rattle.protocol.specs.Refusals.{unless, firstFault, isFramed, Report, CustodianLayer, reportOf}
 
 -- A seated custodian: its seat, the label, n and t of its ceremony, its coefficients (a_k, b_k), and the share in the letter taken from each dealer.
 pub record Custodian : Type 0 where
@@ -270,3 +270,9 @@ sheetFault m b custodian room =
     ∷ unless (inPhase m b Finished) (Ceremony (OutOfPhase 0))
     ∷ unless (isSome (sheetBytes m b custodian)) (Ceremony (Missing 0))
     ∷ unless (hasRoom (sheetBytes m b custodian) room) TooSmall ∷ [])
+
+-- The number, layer, place and reason of each fault.
+abbrev pub custodianReport : CustodianFault → Report
+custodianReport (Ceremony fault) = reportOf fault
+custodianReport TooSmall = record { number = 14; layer = CustodianLayer; place = 0; reason = 0 }
+custodianReport (Stranger place) = record { number = 15; layer = CustodianLayer; place = place; reason = 0 }

@@ -16,10 +16,13 @@ use Rattle.sharing.specs.Codes.{decodedFrom, refusedFrom}
 use Rattle.protocol.specs.declared.phase.Phase.the-variants.{Finished}
 use Rattle.protocol.specs.Seats.{count, every, some, those}
 use Rattle.protocol.specs.Record.{kindWith, codesOf}
-use Rattle.protocol.specs.Board.{starts, phaseAfter, phaseOf, entry, passes1, passes2, qualified, answered, contested, reveals, revealedShare, allRevealed, keyPart, productOver, key}
-use Rattle.protocol.specs.Refusals.{firstFault, openingFault, replayed, postingFault, testsOf}
+use Rattle.protocol.specs.Board.{empty, starts, phaseAfter, phaseOf, entry, passes1, passes2, qualified, answered, contested, reveals, revealedShare, allRevealed, keyPart, productOver, key}
+use Rattle.protocol.specs.Refusals.{firstFault, openingFault, replayed, postingFault, testsOf, afterOpening, equationsReplayed}
+use Rattle.protocol.specs.Readings.{stateOf, seatListFault, keyFault}
+use Rattle.protocol.specs.declared.fault.CeremonyFault.the-variants.{SmallOutput}
+use Rattle.protocol.specs.declared.state.SeatState.the-variants.{Qualified, Contested}
 use Rattle.sharing.specs.Interpolation.{weighted, weight, factor, inverse, firstFrom}
-use Rattle.figures.specs.Figures.{finished}
+use Rattle.figures.specs.Figures.{opening, records, finished}
 use Rattle.figures.proofs.figures_hold.Needs as need
 
 -- 2038^1019 is 2038, not 1
@@ -42,6 +45,18 @@ key-is : key residues finished ≡ 18
 unfolding power code codeAt sumFrom decodedFrom firstFault openingFault phaseOf starts phaseAfter replayed postingFault testsOf entry passes1 passes2 qualified answered contested count every some those refusedFrom kindWith reveals allRevealed weighted weight factor inverse firstFrom keyPart productOver
 key-is = refl
 
+states-are : (stateOf residues finished 1 ≡ Qualified) × (stateOf residues finished 3 ≡ Contested)
+unfolding stateOf power code codeAt sumFrom decodedFrom firstFault openingFault phaseOf starts phaseAfter replayed postingFault testsOf entry passes1 passes2 qualified answered contested count every some those refusedFrom kindWith reveals allRevealed
+states-are = (refl, refl)
+
+rooms-are : (seatListFault residues finished 2 ≡ Some SmallOutput) × (keyFault residues finished 2 ≡ None)
+unfolding seatListFault keyFault power code codeAt sumFrom decodedFrom firstFault openingFault phaseOf starts phaseAfter replayed postingFault testsOf entry passes1 passes2 qualified answered contested count every some those refusedFrom kindWith reveals allRevealed
+rooms-are = (refl, refl)
+
+equations-are : equationsReplayed residues (afterOpening residues empty 354 (opening 3 1)) records ≡ 2
+unfolding equationsReplayed power code codeAt sumFrom decodedFrom firstFault openingFault phaseOf starts phaseAfter replayed postingFault testsOf entry passes1 passes2 qualified answered contested count every some those refusedFrom kindWith reveals allRevealed
+equations-are = refl
+
 pub returns : need.returns
 unfolding sumOfShifts timesZ power code codeAt codesOf sumFrom decodedFrom firstFault openingFault phaseOf starts phaseAfter
 returns c = record {
@@ -62,4 +77,12 @@ returns c = record {
   is-finished = phase-is;
   revealed-3 = revealed-is;
   key-18 = key-is;
+  state-1 = states-are .0;
+  state-3 = states-are .1;
+  no-room = rooms-are .0;
+  key-room = rooms-are .1;
+  equations = equations-are;
+  number-13 = refl;
+  number-12 = refl;
+  number-14 = refl;
 }
