@@ -13,7 +13,7 @@ use residues::ResiduesGroup;
 use std::test::*;
 
 // The bytes from a place on are as they were before.
-pub fn check_rest(bytes: &[u8], from: usize) -> Result<(), Fail> {
+pub(super) fn check_rest(bytes: &[u8], from: usize) -> Result<(), Fail> {
     for k in from..bytes.len() {
         check_eq(bytes[k], 0xAA).note(k)?;
     }

@@ -5,12 +5,12 @@ use group::group::Group;
 use group::powers::power_of;
 
 // Each number comes from the one before.
-pub fn next_number(n: u32) -> u32 {
+pub(super) fn next_number(n: u32) -> u32 {
     n.wrapping_mul(1664525).wrapping_add(1013904223)
 }
 
 // Writes 32 scalar codes, as far as they have room.
-pub fn fill_scalars<G: Group>(start: u32, codes: &mut [u8]) {
+pub(super) fn fill_scalars<G: Group>(start: u32, codes: &mut [u8]) {
     let mut n = start;
     let mut place = 0;
     for _k in 0..32 {
@@ -24,7 +24,7 @@ pub fn fill_scalars<G: Group>(start: u32, codes: &mut [u8]) {
 }
 
 // Writes the codes of 16 powers of g, as far as they have room.
-pub fn fill_elements<G: Group>(start: u32, codes: &mut [u8]) {
+pub(super) fn fill_elements<G: Group>(start: u32, codes: &mut [u8]) {
     let mut n = start;
     let mut place = 0;
     for _k in 0..16 {
