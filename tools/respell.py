@@ -10,7 +10,7 @@ import os
 import re
 import sys
 
-TOKEN = re.compile(r"[^\s(){}\[\],;.@\"|`]+")
+TOKEN = re.compile(r"[^\s(){}\[\],:;.@\"|`]+")
 DECLARED = re.compile(r"^\s*(?:abbrev |unfoldable )?(?:pub )?(?:abbrev |unfoldable )?(?:data |record )?(?:pub )?([^\s:(){}.,]+)\s*(?:[({].*)?:(?:\s|$)")
 MEMBER = re.compile(r"^\s*(?:pub )?ghost ([A-Za-z_][\w'-]*)\s*[:=]")
 # Names that would otherwise fall together with a function's or a definition's: a lemma named as its function gets `_lem`.

@@ -1,4 +1,6 @@
 // Group 2: polynomials over GF(2) modulo z^17 + z^3 + 1, bit k the coefficient of z^k.
+#![tactic(auto)]
+
 ghost use Rattle.std.specs.Prelude.{◌≡◌, ◌<◌, true, nat_lt};
 ghost use Rattle.std.proofs.lemmas.Bool.{lt-ltb};
 ghost use Rattle.binary_polynomials.specs.Polynomials.{polynomials, times_reduced, times_z, ProductIsRemainder};

@@ -1,4 +1,6 @@
 // A ceremony over a lent area of bytes: opening, posting, and what the taken records decide.
+#![tactic(auto)]
+
 pub mod ceremony;
 mod checks;
 mod closing;

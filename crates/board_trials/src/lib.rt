@@ -1,4 +1,6 @@
 // Tests of the calls of a ceremony in both groups: worked figures, refusals, readings, and that a refusal changes nothing.
+#![tactic(auto)]
+
 #[cfg(test)]
 mod codes;
 #[cfg(test)]

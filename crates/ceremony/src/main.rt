@@ -1,4 +1,6 @@
 // One dealing from beginning to end, in both groups, told in printed lines.
+#![tactic(auto)]
+
 use binary_polynomials::{BinaryPolynomials, product_is_remainder};
 use dealing::deal::{draw_up_deal, draw_up_share};
 use dealing::fault::DealingFault;

@@ -1,4 +1,6 @@
 // Two whole histories, computed from their bytes.
+#![tactic(auto)]
+
 ghost use Rattle.examples.specs.Examples.{FirstHistory, FirstTrusted, SecondHistory};
 
 // Three of five seats keep the rules, one is out and one is contested; the sheets of the three give the logarithm of the key.

@@ -1,4 +1,6 @@
 // The worked figures, as one theorem about the definitions.
+#![tactic(auto)]
+
 ghost use Rattle.figures.specs.Figures.{WorkedFigures};
 
 // The definitions give the worked figures: a theorem, which its contract states.

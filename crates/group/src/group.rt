@@ -22,11 +22,11 @@ pub trait Group {
 
     ghost lawful: { Lawful meaning };
 
-    ghost numberOf: { Self.Element → ℕ };
+    ghost number_of: { Self.Element → ℕ };
 
     ghost inside: { (x : Self.Element) → meaning.member (number_of x) ≡ true };
 
-    ghost scalarOf: { Self.Scalar → ℕ };
+    ghost scalar_of: { Self.Scalar → ℕ };
 
     ghost below: { (x : Self.Scalar) → scalar_of x < meaning.q };
 

@@ -1,4 +1,6 @@
 // The interface of a sealing group, and all that is the same for every group.
+#![tactic(auto)]
+
 pub mod codes;
 pub mod fault;
 pub mod group;

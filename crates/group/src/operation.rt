@@ -11,7 +11,7 @@ pub trait Operation {
 
     ghost commutative: { Commutative member monoid };
 
-    ghost numberOf: { Self.Item → ℕ };
+    ghost number_of: { Self.Item → ℕ };
 
     ghost inside: { (x : Self.Item) → member (number_of x) ≡ true };
 

@@ -1,4 +1,6 @@
 // The protocol in definitions: records, the board, refusals, custodians, and the theorems about them.
+#![tactic(auto)]
+
 pub mod fault;
 pub mod kind;
 pub mod numbers;

@@ -1,7 +1,7 @@
 // The states of the seats, and the seat list.
 ghost use Rattle.std.specs.Prelude.{◌≡◌, length, nat_lt};
 ghost use Rattle.protocol.specs.Board.{starts};
-ghost use Rattle.protocol.specs.Readings.{state_of as seatState, seat_list_fault};
+ghost use Rattle.protocol.specs.Readings.{state_of as seat_state, seat_list_fault};
 ghost use Rattle.board_index.specs.State.{board_of};
 ghost use Rattle.board_index.specs.Kept.{Kept};
 ghost use Rattle.board.specs.State.{state_of};
@@ -30,7 +30,7 @@ fn are_answers_open<G: Group>(ceremony: &Ceremony<'_, G>) -> bool
 // The state of a seat; absent where there is no such seat.
 pub fn state_of<G: Group>(ceremony: &Ceremony<'_, G>, seat: u8) -> SeatState
     requires { Kept meaning (state_of ceremony.now) }
-    ensures { result ≡ seatState meaning (board_of meaning (state_of ceremony.now)) seat }
+    ensures { result ≡ seat_state meaning (board_of meaning (state_of ceremony.now)) seat }
 {
     if !ceremony.has(Kind::Deal, seat, 0) {
         return SeatState::Absent;

@@ -1,5 +1,5 @@
 ghost use Rattle.std.specs.Prelude.{◌≡◌};
-ghost use Rattle.protocol.specs.Refusals.{replayed as boardReplayed, equations_replayed};
+ghost use Rattle.protocol.specs.Refusals.{replayed as board_replayed, equations_replayed};
 ghost use Rattle.board_index.specs.State.{board_of};
 ghost use Rattle.board_index.specs.Kept.{Kept};
 ghost use Rattle.board.specs.State.{state_of};
@@ -27,7 +27,7 @@ fn frame_size(bytes: &[u8]) -> Option<usize>
 // Posts the records of a file, and stops at the first frame that is broken.
 pub fn replay<G: Group>(ceremony: &mut Ceremony<'_, G>, file: &[u8]) -> Replayed
     requires { Kept meaning (state_of ceremony.old) }
-    ensures board { board_of meaning (state_of ceremony.new) ≡ boardReplayed meaning (board_of meaning (state_of ceremony.old)) (frames_of file.now) }
+    ensures board { board_of meaning (state_of ceremony.new) ≡ board_replayed meaning (board_of meaning (state_of ceremony.old)) (frames_of file.now) }
     ensures area { area_of (state_of ceremony.new) ≡ area_replayed meaning (area_of (state_of ceremony.old)) (frames_of file.now) }
     ensures equations { result.equations ≡ equations_replayed meaning (board_of meaning (state_of ceremony.old)) (frames_of file.now) }
     ensures taken { result.taken ≡ taken_of meaning (board_of meaning (state_of ceremony.old)) (frames_of file.now) }

@@ -1,4 +1,6 @@
 // Group 1: residues modulo 2039.
+#![tactic(auto)]
+
 ghost use Rattle.std.specs.Prelude.{◌≡◌, true, nat_lt};
 ghost use Rattle.std.proofs.lemmas.Bool.{lt-ltb};
 ghost use Rattle.residues.specs.Residues.{residues, times_modulo};

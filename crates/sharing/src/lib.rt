@@ -1,4 +1,6 @@
 // Values on a polynomial, for everything that can be added and scaled.
+#![tactic(auto)]
+
 pub mod commitment;
 pub mod element;
 pub mod evaluation;

@@ -27,7 +27,7 @@ pub trait Linear<G: Group>: Copy {
 
     ghost encoded: { Value → List ℕ };
 
-    ghost encodedLength: { (v : Value) → length (encoded v) ≡ width };
+    ghost encoded_length: { (v : Value) → length (encoded v) ≡ width };
 
     ghost refusal: { List ℕ → ℕ → Maybe Fault };
 

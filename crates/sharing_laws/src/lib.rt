@@ -1,4 +1,6 @@
 // What is proved of interpolation, of logarithms and of commitments.
+#![tactic(auto)]
+
 ghost use Rattle.sharing.specs.Interpolation.{Interpolates, OpeningsInterpolate, LogarithmsInterpolate, LogarithmsUnique, OpeningsDiffer};
 
 use group::group::Group;

@@ -1,4 +1,6 @@
 // Tests of sharing and dealing in both groups: values, interpolation, seats, refusals, and whole dealings.
+#![tactic(auto)]
+
 #[cfg(test)]
 mod dealings;
 #[cfg(test)]

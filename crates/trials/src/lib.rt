@@ -1,4 +1,6 @@
 // Tests of both groups: every code, what is written, and the arithmetic against plain numbers.
+#![tactic(auto)]
+
 #[cfg(test)]
 mod codes;
 #[cfg(test)]

@@ -1,4 +1,6 @@
 // A whole board in each group and a file replayed, told in printed lines.
+#![tactic(auto)]
+
 mod boards;
 mod showing;
 
