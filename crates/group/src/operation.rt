@@ -24,7 +24,7 @@ pub trait Operation {
 
 // u^n.
 pub fn raised<O: Operation>(u: O::Item, n: u32) -> O::Item
-    ensures { number_of result ≡ power monoid (number_of u) n }
+    ensures { O.number_of result ≡ power O.monoid (O.number_of u) n }
 {
     let mut acc = O::unit();
     let mut base = u;

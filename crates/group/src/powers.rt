@@ -37,7 +37,7 @@ impl<G: Group> Operation for Products<G> {
 
 // u^x.
 pub fn power_of<G: Group>(u: G::Element, x: G::Scalar) -> G::Element
-    ensures { number_of result ≡ power (products meaning) (number_of u) (scalar_of x) }
+    ensures { G.number_of result ≡ power (products G.meaning) (G.number_of u) (G.scalar_of x) }
 {
     raised::<Products<G>>(u, G::scalar_number(x))
 }

@@ -4,8 +4,8 @@ use Rattle.binary_polynomials.specs.Polynomials.{sum_of_shifts}
 use Rattle.binary_polynomials.specs.PolynomialLaws.{bit_lt, times_z_lt, times_lt, sum_turn, sum_end}
 use Rattle.binary_polynomials.proofs.multiplied.Goals as goal
 
-pub overflow-mul-sum : goal.overflow-mul-sum
-overflow-mul-sum c = let b = bit_lt (c.loop-k.y % 2) c.loop-k.x c.loop-k.invariant.0 (omega arith) in omega arith
+pub overflow_mul-sum : goal.overflow_mul-sum
+overflow_mul-sum c = let b = bit_lt (c.loop-k.y % 2) c.loop-k.x c.loop-k.invariant.0 (omega arith) in omega arith
 
 pub loop-k-preserved : goal.loop-k-preserved
 loop-k-preserved c =

@@ -16,7 +16,7 @@ returns-then-out-size g c =
     let record' = deal m.w c.args.seat (commitments_of m bytes n) in
     let long = deal_length m.w c.args.seat (commitments_of m bytes n) n (decoded_length _ m.s 0 n) in
     let wide = ap (λ (w : ℕ). n * w) c.width.ensures in
-    refused (no_room m bytes n c.args.seat (sym c.check-coefficients.ensures ∙ c.in-ok-check-coefficients.was) (length c.args.out.now) record' (omega (arith, long, wide, c.if-out-size.true))) c.args.out.now
+    refused (no_room m bytes n c.args.seat (sym c.check_coefficients.ensures ∙ c.in-ok-check_coefficients.was) (length c.args.out.now) record' (omega (arith, long, wide, c.if-out-size.true))) c.args.out.now
 
 pub returns : goal.returns
 returns g c =
@@ -30,12 +30,12 @@ returns g c =
     let long = deal_length m.w c.args.seat commitments n many in
     let wide = ap (λ (w : ℕ). n * w) c.width.ensures in
     let size : 5 + n * c.width.result ≡ 5 + n * m.w = omega (arith, wide) in
-    let outcome = drawn_up_lem m bytes n c.args.seat (sym c.check-coefficients.ensures ∙ c.in-ok-check-coefficients.was) (length out) record' (omega (arith, long, wide, c.if-out-size.false)) in
+    let outcome = drawn_up_lem m bytes n c.args.seat (sym c.check_coefficients.ensures ∙ c.in-ok-check_coefficients.was) (length out) record' (omega (arith, long, wide, c.if-out-size.false)) in
     let body = codes_of m.w commitments in
     let pasted =
-    c.write-commitments.ensures
+    c.write_commitments.ensures
     ∙ ap (λ (d : List ℕ). paste d 5 body (n * m.w))
-    (c.write-code-3.ensures
-    ∙ ap (λ (d : List ℕ). paste d 4 (code 1 c.args.seat) 1) (c.write-code-2.ensures ∙ ap (λ (d : List ℕ). paste d 2 (code 2 2) 2) c.write-code.ensures))
+    (c.write_code-3.ensures
+    ∙ ap (λ (d : List ℕ). paste d 4 (code 1 c.args.seat) 1) (c.write_code-2.ensures ∙ ap (λ (d : List ℕ). paste d 2 (code 2 2) 2) c.write_code.ensures))
     ∙ deal_pasted out m.w c.args.seat (5 + n * c.width.result) commitments n (omega arith) many size in
-    written outcome out c.write-commitments.new.out (5 + n * c.width.result) (size ∙ sym long) (pasted ∙ ap (paste out 0 record') (size ∙ sym long))
+    written outcome out c.write_commitments.new.out (5 + n * c.width.result) (size ∙ sym long) (pasted ∙ ap (paste out 0 record') (size ∙ sym long))

@@ -16,13 +16,13 @@ known-left-requires g c =
     let n = c.args.count in
     let inside = room k n m.s c.loop-k-test.true in
     let none = taken_at (scalar_refused m c.args.coefficients.now) m.s k 0 (2 * n) (omega arith) c.requires.taken in
-    rw c.scalar-width-s.ensures record { within = omega (arith, inside, c.requires.given); taken = rw (zero-add (k * m.s)) at none }
+    rw c.scalar_width-s.ensures record { within = omega (arith, inside, c.requires.given); taken = rw (zero-add (k * m.s)) at none }
 
-pub overflow-add-k : goal.overflow-add-k
-overflow-add-k g c =
+pub overflow_add-k : goal.overflow_add-k
+overflow_add-k g c =
     let m = g.G.Group.meaning in
     let inside = room c.loop-k.k c.args.count m.s c.loop-k-test.true in
-    rw c.scalar-width-s.ensures (omega (arith, inside, c.requires.given))
+    rw c.scalar_width-s.ensures (omega (arith, inside, c.requires.given))
 
 pub known-right-requires : goal.known-right-requires
 known-right-requires g c =
@@ -32,16 +32,16 @@ known-right-requires g c =
     let inside = room k n m.s c.loop-k-test.true in
     let place : 0 + (k + n) * m.s ≡ k * m.s + n * m.s = zero-add ((k + n) * m.s) ∙ add-mul k n m.s in
     let none = taken_at (scalar_refused m c.args.coefficients.now) m.s (k + n) 0 (2 * n) (omega arith) c.requires.taken in
-    rw c.scalar-width-s.ensures record { within = omega (arith, inside, c.requires.given); taken = rw place at none }
+    rw c.scalar_width-s.ensures record { within = omega (arith, inside, c.requires.given); taken = rw place at none }
 
-pub overflow-add-at : goal.overflow-add-at
-overflow-add-at g c =
+pub overflow_add-at : goal.overflow_add-at
+overflow_add-at g c =
     let m = g.G.Group.meaning in
     let inside = room c.loop-k.k c.args.count m.w c.loop-k-test.true in
     rw c.width-w.ensures (omega (arith, inside, c.requires.room))
 
-pub write-element-requires : goal.write-element-requires
-write-element-requires g c =
+pub write_element-requires : goal.write_element-requires
+write_element-requires g c =
     let m = g.G.Group.meaning in
     let inside = room c.loop-k.k c.args.count m.w c.loop-k-test.true in
     rw c.width-w.ensures (omega (arith, inside, c.requires.room))
@@ -59,14 +59,14 @@ loop-k-preserved g c =
     let n = c.args.count in
     let at = c.args.at in
     let bytes = c.args.coefficients.now in
-    let s = c.scalar-width-s.ensures in
+    let s = c.scalar_width-s.ensures in
     let w = c.width-w.ensures in
     let committed : ℕ → ℕ = λ place. commitment m (code_at bytes m.s place, code_at bytes m.s (place + n * m.s)) in
     let left = c.known-left.ensures ∙ ap (λ (x : ℕ). code_at bytes m.s (k * x)) s in
     let right = c.known-right.ensures ∙ ap (λ (x : ℕ). code_at bytes m.s (k * x + n * x)) s in
     let start : at ≤ length c.args.out.now = omega (arith, c.requires.room) in
     let number = c.commit.ensures ∙ ap₂ (λ (x y : ℕ). commitment m (x, y)) left right ∙ ap committed (sym (zero-add (k * m.s))) in
-    c.write-element.ensures
+    c.write_element.ensures
     ∙ ap₂ (λ (x y : ℕ). paste c.loop-k.out (at + k * x) (code m.w y) m.w) w number
     ∙ ap (λ (out : List ℕ). paste out (at + k * m.w) (code m.w (committed (0 + k * m.s))) m.w) c.loop-k.invariant
     ∙ paste_code c.args.out.now at committed m.s m.w k start

@@ -3,11 +3,11 @@ use Rattle.group.specs.Code.{code_at}
 use Rattle.group.proofs.CodeSteps.{room, grown, read_none, read_more}
 use Rattle.group.proofs.codes.read_code.Goals as goal
 
-pub overflow-mul-n : goal.overflow-mul-n
-overflow-mul-n c = let r = room c.loop-k.n (c.args.width - c.loop-k.k) (omega arith) c.loop-k.invariant.1 in omega arith
+pub overflow_mul-n : goal.overflow_mul-n
+overflow_mul-n c = let r = room c.loop-k.n (c.args.width - c.loop-k.k) (omega arith) c.loop-k.invariant.1 in omega arith
 
-pub overflow-add-n-in-loop-k : goal.overflow-add-n-in-loop-k
-overflow-add-n-in-loop-k c =
+pub overflow_add-n-in-loop-k : goal.overflow_add-n-in-loop-k
+overflow_add-n-in-loop-k c =
     let r = room c.loop-k.n (c.args.width - c.loop-k.k) (omega arith) c.loop-k.invariant.1 in
     let b : get_or c.args.bytes.now (c.args.at + (c.loop-k.k - 1)) 0 < 256 = search rules in
     omega arith

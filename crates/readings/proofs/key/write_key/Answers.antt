@@ -43,7 +43,7 @@ returns g c =
     record {
       answer = answers fault c.width-width.result m.w w e;
       output =
-          c.write-element.ensures
-          ∙ ap₂ (λ (n k : ℕ). paste out 0 (code m.w n) k) c.key-of.ensures (sym (code_length m.w (key m b)))
+          c.write_element.ensures
+          ∙ ap₂ (λ (n k : ℕ). paste out 0 (code m.w n) k) c.key_of.ensures (sym (code_length m.w (key m b)))
           ∙ leaves fault (written_in out (key_code m b)) out e;
     }

@@ -10,25 +10,25 @@ use Rattle.readings.proofs.Shares.{entries_back, shares_taken}
 use Rattle.readings.proofs.Written.{written_first}
 use Rattle.readings.proofs.reveals.revealed_share.Goals as goal
 
-pub write-shares-requires : goal.write-shares-requires
-write-shares-requires g c = record {
+pub write_shares-requires : goal.write_shares-requires
+write_shares-requires g c = record {
   kept = c.requires;
-  room = shares_fit g.G.Group.meaning g.G.Group.lawful c.find-serving-count.result c.find-serving-count.new.seats c.find-serving-count.ensures.within;
+  room = shares_fit g.G.Group.meaning g.G.Group.lawful c.find_serving-count.result c.find_serving-count.new.seats c.find_serving-count.ensures.within;
 }
 
-pub interpolate-known-requires : goal.interpolate-known-requires
-interpolate-known-requires g c =
+pub interpolate_known-requires : goal.interpolate_known-requires
+interpolate_known-requires g c =
     let m = g.G.Group.meaning in
     let s = state_of c.args.ceremony.now in
-    let seats = take c.find-serving-count.result c.find-serving-count.new.seats in
+    let seats = take c.find_serving-count.result c.find_serving-count.new.seats in
     let f = share_of (board_of m s) c.args.dealer in
     let codes = pair_codes m.s (map f seats) in
     let out : List ℕ = replicate 128 0 in
-    let stands : c.write-shares.new.out ≡ codes ++ drop (length codes) out = c.write-shares.ensures ∙ sym (written_first out codes) in
+    let stands : c.write_shares.new.out ≡ codes ++ drop (length codes) out = c.write_shares.ensures ∙ sym (written_first out codes) in
     record {
-      seats = subst Seats (sym c.find-serving-count.ensures.seats) (serving_seats_lem m g.G.Group.lawful s c.requires c.args.dealer);
-      within = omega (arith, shares_fit m g.G.Group.lawful c.find-serving-count.result c.find-serving-count.new.seats c.find-serving-count.ensures.within, c.write-shares.auto.out);
-      taken = shares_taken m g.G.Group.lawful f (revealed_below m g.G.Group.lawful s c.requires c.args.dealer) c.write-shares.new.out seats 0 (drop (length codes) out) stands;
+      seats = subst Seats (sym c.find_serving-count.ensures.seats) (serving_seats_lem m g.G.Group.lawful s c.requires c.args.dealer);
+      within = omega (arith, shares_fit m g.G.Group.lawful c.find_serving-count.result c.find_serving-count.new.seats c.find_serving-count.ensures.within, c.write_shares.auto.out);
+      taken = shares_taken m g.G.Group.lawful f (revealed_below m g.G.Group.lawful s c.requires c.args.dealer) c.write_shares.new.out seats 0 (drop (length codes) out) stands;
     }
 
 pub returns : goal.returns
@@ -36,13 +36,13 @@ unfolding reveals
 returns g c =
     let m = g.G.Group.meaning in
     let s = state_of c.args.ceremony.now in
-    let seats = take c.find-serving-count.result c.find-serving-count.new.seats in
+    let seats = take c.find_serving-count.result c.find_serving-count.new.seats in
     let f = share_of (board_of m s) c.args.dealer in
     let codes = pair_codes m.s (map f seats) in
     let out : List ℕ = replicate 128 0 in
-    let stands : c.write-shares.new.out ≡ codes ++ drop (length codes) out = c.write-shares.ensures ∙ sym (written_first out codes) in
-    c.interpolate-known.ensures
+    let stands : c.write_shares.new.out ≡ codes ++ drop (length codes) out = c.write_shares.ensures ∙ sym (written_first out codes) in
+    c.interpolate_known.ensures
     ∙ ap (interpolated (shares m) m.q) (
-    entries_back m g.G.Group.lawful f (revealed_below m g.G.Group.lawful s c.requires c.args.dealer) c.write-shares.new.out seats 0 (drop (length codes) out) stands
-    ∙ ap (map (λ j. (j, f j))) c.find-serving-count.ensures.seats
+    entries_back m g.G.Group.lawful f (revealed_below m g.G.Group.lawful s c.requires c.args.dealer) c.write_shares.new.out seats 0 (drop (length codes) out) stands
+    ∙ ap (map (λ j. (j, f j))) c.find_serving-count.ensures.seats
     )

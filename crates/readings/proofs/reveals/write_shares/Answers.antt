@@ -13,7 +13,7 @@ use Rattle.readings.proofs.reveals.write_shares.Goals as goal
 pub write-requires : goal.write-requires
 write-requires g c =
     let w = g.G.Group.meaning.s + g.G.Group.meaning.s in
-    rw c.code-width-width.ensures (omega (arith, room c.loop-k.k (length c.args.seats.now) w c.loop-k-test.true))
+    rw c.code_width-width.ensures (omega (arith, room c.loop-k.k (length c.args.seats.now) w c.loop-k-test.true))
 
 pub loop-k-init : goal.loop-k-init
 loop-k-init g c =
@@ -32,8 +32,8 @@ loop-k-preserved g c =
     let k = c.loop-k.k in
     let f = share_of (board_of m (state_of c.args.ceremony.now)) c.args.dealer in
     c.write.ensures
-    ∙ ap₂ (λ (d : List ℕ) (p : ℕ). paste d (k * p) (code s (g.G.Group.scalar_of c.share-of.result.left.value) ++ code s (g.G.Group.scalar_of c.share-of.result.right.value)) w) c.loop-k.invariant c.code-width-width.ensures
-    ∙ ap (λ (x : ℕ × ℕ). paste (paste out 0 (pair_codes s (map f (take k seats))) (k * w)) (k * w) (code s x.0 ++ code s x.1) w) c.share-of.ensures
+    ∙ ap₂ (λ (d : List ℕ) (p : ℕ). paste d (k * p) (code s (g.G.Group.scalar_of c.share_of.result.left.value) ++ code s (g.G.Group.scalar_of c.share_of.result.right.value)) w) c.loop-k.invariant c.code_width-width.ensures
+    ∙ ap (λ (x : ℕ × ℕ). paste (paste out 0 (pair_codes s (map f (take k seats))) (k * w)) (k * w) (code s x.0 ++ code s x.1) w) c.share_of.ensures
     ∙ share_more s f seats out k c.loop-k-test.true
 
 pub returns : goal.returns

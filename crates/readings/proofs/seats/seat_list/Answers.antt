@@ -34,7 +34,7 @@ loop-k-preserved g c =
     let m = g.G.Group.meaning in
     let b = board_of m (state_of c.args.ceremony.now) in
     let k = c.loop-k.k in
-    ap (λ (r : SeatRow). set c.loop-k.rows k r) c.row-of.ensures
+    ap (λ (r : SeatRow). set c.loop-k.rows k r) c.row_of.ensures
     ∙ row_more (seat_row m b) c.args.rows.now c.loop-k.rows k (omega arith) c.loop-k.invariant
 
 pub returns : goal.returns

@@ -9,29 +9,29 @@ returns-then-not-has g c =
     let m = g.G.Group.meaning in
     absent m (board_of m (state_of c.args.ceremony.now)) c.args.seat (sym c.if-not-has.ensures)
 
-pub returns-then-are-answers-open : goal.returns-then-are-answers-open
-returns-then-are-answers-open g c =
+pub returns-then-are_answers_open : goal.returns-then-are_answers_open
+returns-then-are_answers_open g c =
     let m = g.G.Group.meaning in
     dealt m (board_of m (state_of c.args.ceremony.now)) c.args.seat
-    (sym c.if-not-has.ensures) (sym c.if-are-answers-open.ensures)
+    (sym c.if-not-has.ensures) (sym c.if-are_answers_open.ensures)
 
-pub returns-then-is-contested : goal.returns-then-is-contested
-returns-then-is-contested g c =
+pub returns-then-is_contested : goal.returns-then-is_contested
+returns-then-is_contested g c =
     let m = g.G.Group.meaning in
     disputed m (board_of m (state_of c.args.ceremony.now)) c.args.seat
-    (sym c.if-not-has.ensures) (sym c.if-are-answers-open.ensures)
-    (sym c.if-is-contested.ensures)
+    (sym c.if-not-has.ensures) (sym c.if-are_answers_open.ensures)
+    (sym c.if-is_contested.ensures)
 
-pub returns-then-is-qualified : goal.returns-then-is-qualified
-returns-then-is-qualified g c =
+pub returns-then-is_qualified : goal.returns-then-is_qualified
+returns-then-is_qualified g c =
     let m = g.G.Group.meaning in
     admitted m (board_of m (state_of c.args.ceremony.now)) c.args.seat
-    (sym c.if-not-has.ensures) (sym c.if-are-answers-open.ensures)
-    (sym c.if-is-contested.ensures) (sym c.if-is-qualified.ensures)
+    (sym c.if-not-has.ensures) (sym c.if-are_answers_open.ensures)
+    (sym c.if-is_contested.ensures) (sym c.if-is_qualified.ensures)
 
 pub returns : goal.returns
 returns g c =
     let m = g.G.Group.meaning in
     left_out m (board_of m (state_of c.args.ceremony.now)) c.args.seat
-    (sym c.if-not-has.ensures) (sym c.if-are-answers-open.ensures)
-    (sym c.if-is-contested.ensures) (sym c.if-is-qualified.ensures)
+    (sym c.if-not-has.ensures) (sym c.if-are_answers_open.ensures)
+    (sym c.if-is_contested.ensures) (sym c.if-is_qualified.ensures)

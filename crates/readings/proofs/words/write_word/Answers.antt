@@ -23,7 +23,7 @@ returns c =
     let same = c.word-text.ensures in
     let size : length c.word-text.result.now ≡ length w = ap length same in
     let e = word_taken c.args.state (length out) (omega arith) in
-    let now : c.copy-from-slice.new.self ≡ c.word-text.result.now = c.copy-from-slice.ensures.after in
+    let now : c.copy_from_slice.new.self ≡ c.word-text.result.now = c.copy_from_slice.ensures.after in
     record {
       answer = answers fault (length c.word-text.result.now) (length w) size e;
       output =

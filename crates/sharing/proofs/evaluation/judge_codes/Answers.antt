@@ -8,8 +8,8 @@ use Rattle.sharing.proofs.evaluation.judge_codes.Goals as goal
 pub read-requires : goal.read-requires
 read-requires g c = omega (arith, room c.loop-k.-k c.args.count g.L.Linear.width c.loop-k-test.true, c.loop-k.invariant.0, c.requires)
 
-pub overflow-add-place : goal.overflow-add-place
-overflow-add-place g c = omega (arith, room c.loop-k.-k c.args.count g.L.Linear.width c.loop-k-test.true, c.loop-k.invariant.0, c.requires, c.code-width-place.ensures)
+pub overflow_add-place : goal.overflow_add-place
+overflow_add-place g c = omega (arith, room c.loop-k.-k c.args.count g.L.Linear.width c.loop-k-test.true, c.loop-k.invariant.0, c.requires, c.code_width-place.ensures)
 
 pub loop-k-init : goal.loop-k-init
 loop-k-init g c =
@@ -22,7 +22,7 @@ loop-k-preserved g c =
     let m = g.L.Linear in
     let k = c.loop-k.-k in
     let left = c.args.count - (k + 1) in
-    let wide = c.code-width-place.ensures in
+    let wide = c.code_width-place.ensures in
     let next : c.args.count - k ≡ suc left = omega arith in
     let refusal = m.refusal c.args.codes.now in
     let none = (read_taken (refusal c.loop-k.place) m.of (m.decoded c.args.codes.now c.loop-k.place) c.read.result c.in-ok-read.field-0 c.read.ensures c.in-ok-read.was).0 in (

@@ -6,19 +6,19 @@ use Rattle.sharing.proofs.CodeWalk.{room, place_after, place_first, taken_at, ta
 use Rattle.sharing.proofs.Horner.{horner, scaled_mod, value_none}
 use Rattle.sharing.proofs.evaluation.value_of_known.Goals as goal
 
-pub code-width-requires : goal.code-width-requires
-code-width-requires g c = omega (arith, room (c.loop-k.k - 1) c.args.count g.L.Linear.width (omega arith), c.requires.within)
+pub code_width-requires : goal.code_width-requires
+code_width-requires g c = omega (arith, room (c.loop-k.k - 1) c.args.count g.L.Linear.width (omega arith), c.requires.within)
 
-pub overflow-add-at : goal.overflow-add-at
-overflow-add-at g c =
-    rw c.code-width.ensures (omega (arith, room (c.loop-k.k - 1) c.args.count g.L.Linear.width (omega arith), c.requires.within))
+pub overflow_add-at : goal.overflow_add-at
+overflow_add-at g c =
+    rw c.code_width.ensures (omega (arith, room (c.loop-k.k - 1) c.args.count g.L.Linear.width (omega arith), c.requires.within))
 
 pub known-coefficient-requires : goal.known-coefficient-requires
 known-coefficient-requires g c =
     let m = g.L.Linear in
     let k = c.loop-k.k - 1 in
     let inside : k < c.args.count = omega arith in
-    rw c.code-width.ensures record {
+    rw c.code_width.ensures record {
       within = omega (arith, room k c.args.count m.width inside, c.requires.within);
       taken = taken_at (m.refusal c.args.codes.now) m.width k c.args.at c.args.count inside c.requires.taken;
     }
@@ -45,7 +45,7 @@ loop-k-preserved g c =
     let rest = decoded_from decoded w (c.args.at + c.loop-k.k * w) (n - c.loop-k.k) in
     let inside : k < n = omega arith in
     let read : m.of c.known-coefficient.result ≡ decoded (c.args.at + k * w)
-    = c.known-coefficient.ensures ∙ ap (λ (x : ℕ). decoded (c.args.at + k * x)) c.code-width.ensures in
+    = c.known-coefficient.ensures ∙ ap (λ (x : ℕ). decoded (c.args.at + k * x)) c.code_width.ensures in
     let scaled-by : m.of c.scale.result ≡ scaled m.sum seat (value_at m.sum rest seat)
     = c.scale.ensures ∙ ap (λ (x : ℕ). scaled m.sum x value) c.reduced-j.ensures
     ∙ scaled_mod m.commutative q seat value c.zero-value.ensures.exponent (m.inside c.loop-k.value)

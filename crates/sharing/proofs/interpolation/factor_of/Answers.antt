@@ -16,7 +16,7 @@ pub unreachable-requires : goal.unreachable-requires
 unreachable-requires g c =
     let above = g.G.Group.lawful.q_above in
     let some = minus_positive g.G.Group.meaning.q c.args.l c.args.m (omega (arith, c.requires.0)) (omega (arith, c.requires.1)) c.if-l-m.false in
-    omega (arith, c.in-None.ensures, c.difference-of.ensures)
+    omega (arith, c.in-None.ensures, c.difference_of.ensures)
 
 pub returns : goal.returns
 unfolding factor
@@ -29,7 +29,7 @@ returns g c =
     let d = minus q l c.args.m in
     let some = minus_positive q l c.args.m below (omega (arith, c.requires.1)) c.if-l-m.false in
     let y = g.G.Group.scalar_of c.in-Some.inverse in
-    let one = sym (ap (λ (x : ℕ). (y * x) % q) c.difference-of.ensures) ∙ c.in-Some.ensures in
+    let one = sym (ap (λ (x : ℕ). (y * x) % q) c.difference_of.ensures) ∙ c.in-Some.ensures in
     let is = inverse_unique q g.G.Group.lawful.q_prime d some (minus_below q l c.args.m (omega arith)) y (g.G.Group.below c.in-Some.inverse) one in
     c.multiply.ensures
     ∙ ap₂ (λ (x i : ℕ). (x * i) % q) (c.reduced-in-Some.ensures ∙ mod-eq_of_lt below) is

@@ -5,12 +5,12 @@ use Rattle.sharing.proofs.CodeWalk.{room, place_after, place_first, taken_at}
 use Rattle.sharing.proofs.SeatWalk.{seat_low, seats_of_entries, weighted_none, weighted_before}
 use Rattle.sharing.proofs.interpolation.interpolate_known.Goals as goal
 
-pub code-width-requires : goal.code-width-requires
-code-width-requires g c = omega (arith, room (c.loop-k.k - 1) (length c.args.seats.now) g.L.Linear.width (omega arith), c.requires.within)
+pub code_width-requires : goal.code_width-requires
+code_width-requires g c = omega (arith, room (c.loop-k.k - 1) (length c.args.seats.now) g.L.Linear.width (omega arith), c.requires.within)
 
-pub overflow-add-at : goal.overflow-add-at
-overflow-add-at g c =
-    rw c.code-width.ensures (omega (arith, room (c.loop-k.k - 1) (length c.args.seats.now) g.L.Linear.width (omega arith), c.requires.within))
+pub overflow_add-at : goal.overflow_add-at
+overflow_add-at g c =
+    rw c.code_width.ensures (omega (arith, room (c.loop-k.k - 1) (length c.args.seats.now) g.L.Linear.width (omega arith), c.requires.within))
 
 pub known-entry-requires : goal.known-entry-requires
 known-entry-requires g c =
@@ -18,13 +18,13 @@ known-entry-requires g c =
     let k = c.loop-k.k - 1 in
     let n = length c.args.seats.now in
     let inside : k < n = omega arith in
-    rw c.code-width.ensures record {
+    rw c.code_width.ensures record {
       within = omega (arith, room k n m.width inside, c.requires.within);
       taken = taken_at (m.refusal c.args.codes.now) m.width k c.args.at n inside c.requires.taken;
     }
 
-pub weight-of-requires : goal.weight-of-requires
-weight-of-requires g c = (c.requires.seats, seat_low c.args.seats.now c.requires.seats (c.loop-k.k - 1) (omega arith))
+pub weight_of-requires : goal.weight_of-requires
+weight_of-requires g c = (c.requires.seats, seat_low c.args.seats.now c.requires.seats (c.loop-k.k - 1) (omega arith))
 
 pub loop-k-init : goal.loop-k-init
 loop-k-init g c =
@@ -42,8 +42,8 @@ loop-k-preserved g c =
     let seats = c.args.seats.now in
     let decoded = m.decoded c.args.codes.now in
     let weights = weight g.G.Group.meaning.q seats in
-    let read = c.known-entry.ensures ∙ ap (λ (x : ℕ). decoded (at + k * x)) c.code-width.ensures in
-    let term = c.scale.ensures ∙ ap₂ (scaled m.sum) c.weight-of.ensures read in
+    let read = c.known-entry.ensures ∙ ap (λ (x : ℕ). decoded (at + k * x)) c.code_width.ensures in
+    let term = c.scale.ensures ∙ ap₂ (scaled m.sum) c.weight_of.ensures read in
     c.add-sum.ensures
     ∙ ap₂ m.sum.op term
     (c.loop-k.invariant ∙ ap (λ (p : ℕ). weighted m.sum weights (entries_from decoded w p (drop c.loop-k.k seats))) (place_after at c.loop-k.k w c.loop-k-test.true))

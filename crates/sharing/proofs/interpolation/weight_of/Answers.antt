@@ -3,8 +3,8 @@ use Rattle.sharing.specs.Interpolation.{weight}
 use Rattle.sharing.proofs.SeatWalk.{seat_low, weight_none, weight_before}
 use Rattle.sharing.proofs.interpolation.weight_of.Goals as goal
 
-pub factor-of-requires : goal.factor-of-requires
-factor-of-requires g c = (seat_low c.args.seats.now c.requires.0 (c.loop-k.k - 1) (omega arith), c.requires.1)
+pub factor_of-requires : goal.factor_of-requires
+factor_of-requires g c = (seat_low c.args.seats.now c.requires.0 (c.loop-k.k - 1) (omega arith), c.requires.1)
 
 pub loop-k-init : goal.loop-k-init
 loop-k-init g c =
@@ -17,7 +17,7 @@ pub loop-k-preserved : goal.loop-k-preserved
 loop-k-preserved g c =
     let q = g.G.Group.meaning.q in
     c.multiply-product.ensures
-    ∙ ap₂ (λ (f w : ℕ). (f * w) % q) c.factor-of.ensures c.loop-k.invariant
+    ∙ ap₂ (λ (f w : ℕ). (f * w) % q) c.factor_of.ensures c.loop-k.invariant
     ∙ sym (weight_before q c.args.seats.now c.args.m c.loop-k.k c.loop-k-test.true c.loop-k.auto.k)
 
 pub returns : goal.returns

@@ -9,6 +9,6 @@ returns g c =
     let S = c.args.self.now in
     let bytes = c.args.bytes.now in
     record {
-      state = appended_is (state_of S) bytes _ (put_mid-paste S.used _ S.area.now c.copy-from-slice.new.self bytes (length bytes) c.copy-from-slice.ensures.after (omega arith) refl);
+      state = appended_is (state_of S) bytes _ (put_mid-paste S.used _ S.area.now c.copy_from_slice.new.self bytes (length bytes) c.copy_from_slice.ensures.after (omega arith) refl);
       lender = refl;
     }

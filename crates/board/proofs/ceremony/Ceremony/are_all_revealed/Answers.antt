@@ -12,21 +12,21 @@ loop-i-init g c =
     let b = board_of m (state_of c.args.self.now) in
     every_none (λ i. not (contested m b i) || leb (b.t + 1) (count b.n (λ j. revealed b j i)))
 
-pub returns-then-not-is-revealed : goal.returns-then-not-is-revealed
+pub returns-then-not-is_revealed : goal.returns-then-not-is_revealed
 unfolding all_revealed
-returns-then-not-is-revealed g c =
+returns-then-not-is_revealed g c =
     let m = g.G.Group.meaning in
     let b = board_of m (state_of c.args.self.now) in
     let n : c.args.self.now.n ≡ b.n = c.requires.kept.n in
     every_stops (λ i. not (contested m b i) || leb (b.t + 1) (count b.n (λ j. revealed b j i))) b.n c.loop-i.i c.loop-i.auto.i (omega (arith, c.loop-i-test.true))
-    (sym c.is-revealed.ensures ∙ c.if-not-is-revealed.true)
+    (sym c.is_revealed.ensures ∙ c.if-not-is_revealed.true)
 
 pub loop-i-preserved : goal.loop-i-preserved
 loop-i-preserved g c =
     let m = g.G.Group.meaning in
     let b = board_of m (state_of c.args.self.now) in
     every_more (λ i. not (contested m b i) || leb (b.t + 1) (count b.n (λ j. revealed b j i))) c.loop-i.i c.loop-i.auto.i
-    (sym c.is-revealed.ensures ∙ c.if-not-is-revealed.false) c.loop-i.invariant
+    (sym c.is_revealed.ensures ∙ c.if-not-is_revealed.false) c.loop-i.invariant
 
 pub returns : goal.returns
 unfolding all_revealed

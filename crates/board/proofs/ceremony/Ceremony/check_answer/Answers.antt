@@ -25,9 +25,9 @@ returns-then-has g c =
     let h = behind g.G.Group.meaning (state_of c.args.self.now) c.args.bytes.now Answer Answering _ c.requires.kept c.requires.kind c.requires.phase refl (λ e. omega arith) refl in
     search rules
 
-pub returns-in-err-judge-share : goal.returns-in-err-judge-share
+pub returns-in-err-judge_share : goal.returns-in-err-judge_share
 unfolding first_fault tests_of
-returns-in-err-judge-share g c =
+returns-in-err-judge_share g c =
     let h = behind g.G.Group.meaning (state_of c.args.self.now) c.args.bytes.now Answer Answering _ c.requires.kept c.requires.kind c.requires.phase refl (λ e. omega arith) refl in
     search rules
 

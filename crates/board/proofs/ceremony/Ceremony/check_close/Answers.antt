@@ -10,9 +10,9 @@ returns-then-bytes-phase g c =
     let h = behind_close g.G.Group.meaning (state_of c.args.self.now) c.args.bytes.now c.requires.kept c.requires.kind c.requires.phase.0 c.requires.phase.1 in
     search rules
 
-pub returns-then-not-are-all-revealed : goal.returns-then-not-are-all-revealed
+pub returns-then-not-are_all_revealed : goal.returns-then-not-are_all_revealed
 unfolding first_fault
-returns-then-not-are-all-revealed g c =
+returns-then-not-are_all_revealed g c =
     let h = behind_close g.G.Group.meaning (state_of c.args.self.now) c.args.bytes.now c.requires.kept c.requires.kind c.requires.phase.0 c.requires.phase.1 in
     search rules
 

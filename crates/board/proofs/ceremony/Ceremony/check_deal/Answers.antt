@@ -19,9 +19,9 @@ returns-then-has g c =
     let h = behind g.G.Group.meaning (state_of c.args.self.now) c.args.bytes.now Deal Dealing _ c.requires.kept c.requires.kind c.requires.phase refl (λ e. omega arith) refl in
     search rules
 
-pub returns-in-err-judge-elements : goal.returns-in-err-judge-elements
+pub returns-in-err-judge_elements : goal.returns-in-err-judge_elements
 unfolding first_fault tests_of
-returns-in-err-judge-elements g c =
+returns-in-err-judge_elements g c =
     let h = behind g.G.Group.meaning (state_of c.args.self.now) c.args.bytes.now Deal Dealing _ c.requires.kept c.requires.kind c.requires.phase refl (λ e. omega arith) refl in
     search rules
 

@@ -13,9 +13,9 @@ returns-in-err-writer g c =
     let h = behind g.G.Group.meaning (state_of c.args.self.now) c.args.bytes.now Exposure Exposing _ c.requires.kept c.requires.kind c.requires.phase refl (λ e. omega arith) refl in
     search rules
 
-pub returns-then-not-is-qualified : goal.returns-then-not-is-qualified
+pub returns-then-not-is_qualified : goal.returns-then-not-is_qualified
 unfolding first_fault tests_of
-returns-then-not-is-qualified g c =
+returns-then-not-is_qualified g c =
     let h = behind g.G.Group.meaning (state_of c.args.self.now) c.args.bytes.now Exposure Exposing _ c.requires.kept c.requires.kind c.requires.phase refl (λ e. omega arith) refl in
     search rules
 
@@ -25,9 +25,9 @@ returns-then-has g c =
     let h = behind g.G.Group.meaning (state_of c.args.self.now) c.args.bytes.now Exposure Exposing _ c.requires.kept c.requires.kind c.requires.phase refl (λ e. omega arith) refl in
     search rules
 
-pub returns-in-err-judge-elements : goal.returns-in-err-judge-elements
+pub returns-in-err-judge_elements : goal.returns-in-err-judge_elements
 unfolding first_fault tests_of
-returns-in-err-judge-elements g c =
+returns-in-err-judge_elements g c =
     let h = behind g.G.Group.meaning (state_of c.args.self.now) c.args.bytes.now Exposure Exposing _ c.requires.kept c.requires.kind c.requires.phase refl (λ e. omega arith) refl in
     search rules
 

@@ -13,9 +13,9 @@ returns-in-err-objector g c =
     let h = behind g.G.Group.meaning (state_of c.args.self.now) c.args.bytes.now Objection Objecting _ c.requires.kept c.requires.kind c.requires.phase refl (λ e. omega arith) refl in
     search rules
 
-pub returns-then-not-is-qualified : goal.returns-then-not-is-qualified
+pub returns-then-not-is_qualified : goal.returns-then-not-is_qualified
 unfolding first_fault tests_of
-returns-then-not-is-qualified g c =
+returns-then-not-is_qualified g c =
     let h = behind g.G.Group.meaning (state_of c.args.self.now) c.args.bytes.now Objection Objecting _ c.requires.kept c.requires.kind c.requires.phase refl (λ e. omega arith) refl in
     search rules
 
@@ -25,21 +25,21 @@ returns-then-has g c =
     let h = behind g.G.Group.meaning (state_of c.args.self.now) c.args.bytes.now Objection Objecting _ c.requires.kept c.requires.kind c.requires.phase refl (λ e. omega arith) refl in
     search rules
 
-pub returns-in-err-judge-share : goal.returns-in-err-judge-share
+pub returns-in-err-judge_share : goal.returns-in-err-judge_share
 unfolding first_fault tests_of
-returns-in-err-judge-share g c =
+returns-in-err-judge_share g c =
     let h = behind g.G.Group.meaning (state_of c.args.self.now) c.args.bytes.now Objection Objecting _ c.requires.kept c.requires.kind c.requires.phase refl (λ e. omega arith) refl in
     search rules
 
-pub returns-then-not-opens-in : goal.returns-then-not-opens-in
+pub returns-then-not-opens_in : goal.returns-then-not-opens_in
 unfolding first_fault tests_of
-returns-then-not-opens-in g c =
+returns-then-not-opens_in g c =
     let h = behind g.G.Group.meaning (state_of c.args.self.now) c.args.bytes.now Objection Objecting _ c.requires.kept c.requires.kind c.requires.phase refl (λ e. omega arith) refl in
     search rules
 
-pub returns-then-is-exposed-in : goal.returns-then-is-exposed-in
+pub returns-then-is_exposed_in : goal.returns-then-is_exposed_in
 unfolding first_fault tests_of
-returns-then-is-exposed-in g c =
+returns-then-is_exposed_in g c =
     let h = behind g.G.Group.meaning (state_of c.args.self.now) c.args.bytes.now Objection Objecting _ c.requires.kept c.requires.kind c.requires.phase refl (λ e. omega arith) refl in
     search rules
 

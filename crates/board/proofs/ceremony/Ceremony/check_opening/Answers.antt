@@ -3,9 +3,9 @@ use Rattle.protocol.specs.Board.{phase_number}
 use Rattle.protocol.specs.Refusals.{first_fault, opening_fault}
 use Rattle.board.proofs.ceremony.Ceremony.check_opening.Goals as goal
 
-pub returns-in-err-read-frame : goal.returns-in-err-read-frame
+pub returns-in-err-read_frame : goal.returns-in-err-read_frame
 unfolding first_fault opening_fault
-returns-in-err-read-frame g c = search rules
+returns-in-err-read_frame g c = search rules
 
 pub returns-then-branch-ne1 : goal.returns-then-branch-ne1
 unfolding first_fault opening_fault
@@ -19,9 +19,9 @@ pub returns-then-number-ne0 : goal.returns-then-number-ne0
 unfolding first_fault opening_fault
 returns-then-number-ne0 g c = search rules
 
-pub returns-then-read-code-group-number : goal.returns-then-read-code-group-number
+pub returns-then-read_code-group_number : goal.returns-then-read_code-group_number
 unfolding first_fault opening_fault
-returns-then-read-code-group-number g c = search rules
+returns-then-read_code-group_number g c = search rules
 
 pub returns-then-n-lt1 : goal.returns-then-n-lt1
 unfolding first_fault opening_fault
@@ -31,9 +31,9 @@ pub returns-then-t-n : goal.returns-then-t-n
 unfolding first_fault opening_fault
 returns-then-t-n g c = search rules
 
-pub returns-then-self-area-needed : goal.returns-then-self-area-needed
+pub returns-then-self-area_needed : goal.returns-then-self-area_needed
 unfolding first_fault opening_fault
-returns-then-self-area-needed g c = search rules
+returns-then-self-area_needed g c = search rules
 
 pub returns : goal.returns
 unfolding first_fault opening_fault

@@ -19,9 +19,9 @@ returns-in-err-dealer g c =
     let h = behind g.G.Group.meaning (state_of c.args.self.now) c.args.bytes.now Reveal Revealing _ c.requires.kept c.requires.kind c.requires.phase refl (λ e. omega arith) refl in
     search rules
 
-pub returns-then-not-is-contested : goal.returns-then-not-is-contested
+pub returns-then-not-is_contested : goal.returns-then-not-is_contested
 unfolding first_fault tests_of
-returns-then-not-is-contested g c =
+returns-then-not-is_contested g c =
     let h = behind g.G.Group.meaning (state_of c.args.self.now) c.args.bytes.now Reveal Revealing _ c.requires.kept c.requires.kind c.requires.phase refl (λ e. omega arith) refl in
     search rules
 
@@ -31,15 +31,15 @@ returns-then-has g c =
     let h = behind g.G.Group.meaning (state_of c.args.self.now) c.args.bytes.now Reveal Revealing _ c.requires.kept c.requires.kind c.requires.phase refl (λ e. omega arith) refl in
     search rules
 
-pub returns-in-err-judge-share : goal.returns-in-err-judge-share
+pub returns-in-err-judge_share : goal.returns-in-err-judge_share
 unfolding first_fault tests_of
-returns-in-err-judge-share g c =
+returns-in-err-judge_share g c =
     let h = behind g.G.Group.meaning (state_of c.args.self.now) c.args.bytes.now Reveal Revealing _ c.requires.kept c.requires.kind c.requires.phase refl (λ e. omega arith) refl in
     search rules
 
-pub returns-then-not-opens-in : goal.returns-then-not-opens-in
+pub returns-then-not-opens_in : goal.returns-then-not-opens_in
 unfolding first_fault tests_of
-returns-then-not-opens-in g c =
+returns-then-not-opens_in g c =
     let h = behind g.G.Group.meaning (state_of c.args.self.now) c.args.bytes.now Reveal Revealing _ c.requires.kept c.requires.kind c.requires.phase refl (λ e. omega arith) refl in
     search rules
 

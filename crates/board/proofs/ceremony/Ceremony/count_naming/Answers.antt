@@ -11,8 +11,8 @@ use Rattle.board.proofs.ceremony.Ceremony.count_naming.Goals.{then-has, else-has
 pub loop-j-init : goal.loop-j-init
 loop-j-init g c = count_none (λ j. has (board_of g.G.Group.meaning (state_of c.args.self.now)).taken c.args.kind j c.args.dealer)
 
-pub overflow-add-seats : goal.overflow-add-seats
-overflow-add-seats g c =
+pub overflow_add-seats : goal.overflow_add-seats
+overflow_add-seats g c =
     let P : ℕ → Bool = λ j. has (board_of g.G.Group.meaning (state_of c.args.self.now)).taken c.args.kind j c.args.dealer in
     let low = count_below (c.loop-j.j - 1) P in
     let so : c.loop-j.seats ≡ count (c.loop-j.j - 1) P = c.loop-j.invariant in

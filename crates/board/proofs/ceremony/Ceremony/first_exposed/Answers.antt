@@ -12,8 +12,8 @@ pub returns-in-default : goal.returns-in-default
 returns-in-default g c =
     not_stored g.G.Group.meaning (state_of c.args.self.now) Exposure c.args.dealer 0 c.requires refl (sym c.find.ensures ∙ c.in-default.is)
 
-pub overflow-add-place : goal.overflow-add-place
-overflow-add-place g c =
+pub overflow_add-place : goal.overflow_add-place
+overflow_add-place g c =
     let m = g.G.Group.meaning in
     let s = state_of c.args.self.now in
     let E = elements_at m s Exposure c.args.dealer c.in-Some.place c.requires refl refl (sym c.find.ensures ∙ c.in-Some.is) in

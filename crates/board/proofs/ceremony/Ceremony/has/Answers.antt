@@ -5,6 +5,6 @@ use Rattle.board.proofs.ceremony.Ceremony.has.Goals as goal
 
 pub returns : goal.returns
 returns g c =
-    c.is-some.ensures
+    c.is_some.ensures
     ∙ ap is_some c.find.ensures
     ∙ has_found g.G.Group.meaning (state_of c.args.self.now) c.args.kind c.args.writer c.args.second c.requires.kept c.requires.kind

@@ -12,20 +12,20 @@ loop-j-init g c =
     let b = board_of m (state_of c.args.self.now) in
     every_none (λ j. not (complained b j c.args.dealer) || answered m b c.args.dealer j)
 
-pub returns-then-not-has-answered : goal.returns-then-not-has-answered
-returns-then-not-has-answered g c =
+pub returns-then-not-has_answered : goal.returns-then-not-has_answered
+returns-then-not-has_answered g c =
     let m = g.G.Group.meaning in
     let b = board_of m (state_of c.args.self.now) in
     let n : c.args.self.now.n ≡ b.n = c.requires.kept.n in
     every_stops (λ j. not (complained b j c.args.dealer) || answered m b c.args.dealer j) b.n c.loop-j.j c.loop-j.auto.j (omega (arith, c.loop-j-test.true))
-    (sym c.has_answered_lem.ensures ∙ c.if-not-has-answered.true)
+    (sym c.has_answered.ensures ∙ c.if-not-has_answered.true)
 
 pub loop-j-preserved : goal.loop-j-preserved
 loop-j-preserved g c =
     let m = g.G.Group.meaning in
     let b = board_of m (state_of c.args.self.now) in
     every_more (λ j. not (complained b j c.args.dealer) || answered m b c.args.dealer j) c.loop-j.j c.loop-j.auto.j
-    (sym c.has_answered_lem.ensures ∙ c.if-not-has-answered.false) c.loop-j.invariant
+    (sym c.has_answered.ensures ∙ c.if-not-has_answered.false) c.loop-j.invariant
 
 pub returns : goal.returns
 returns g c =

@@ -12,7 +12,7 @@ returns-in-Some g c =
     let m = g.G.Group.meaning in
     let s = g.G.Group.scalar_of c.args.share.left.value in
     let v = c.in-Some.ensures in
-    let left = c.power-of.ensures ∙ ap (λ (u : ℕ). power (products m) u s) c.g.ensures in
+    let left = c.power_of.ensures ∙ ap (λ (u : ℕ). power (products m) u s) c.g.ensures in
     c.equal.ensures ∙ ap₂ eqb left v.2 ∙ sym (ap (λ (o : Option (List ℕ)). holds o (λ exposed. equation2 m exposed c.args.seat s)) v.1)
 
 pub returns-in-None : goal.returns-in-None

@@ -11,5 +11,5 @@ known-requires g c = record { within = omega (arith, c.requires.within); taken =
 pub returns : goal.returns
 returns g c =
     let m = g.G.Group.meaning in
-    c.is-exposed.ensures
+    c.is_exposed.ensures
     ∙ ap (λ (share : ℕ × ℕ). passes2 m (board_of m (state_of c.args.self.now)) c.args.dealer c.args.seat share.0) (c.known.ensures ∙ pair_decoded m c.args.bytes.now 6)

@@ -9,17 +9,17 @@ pub returns-then-not-has : goal.returns-then-not-has
 returns-then-not-has g c =
     no_deal g.G.Group.meaning (board_of g.G.Group.meaning (state_of c.args.self.now)) c.args.dealer (sym c.has.ensures ∙ c.if-not-has.true)
 
-pub returns-then-count-naming-self : goal.returns-then-count-naming-self
-returns-then-count-naming-self g c =
+pub returns-then-count_naming-self : goal.returns-then-count_naming-self
+returns-then-count_naming-self g c =
     let b = board_of g.G.Group.meaning (state_of c.args.self.now) in
-    let k : c.count-naming.result ≡ complaints b c.args.dealer = c.count-naming.ensures in
+    let k : c.count_naming.result ≡ complaints b c.args.dealer = c.count_naming.ensures in
     let t : c.args.self.now.t ≡ b.t = c.requires.kept.t in
-    many_complaints g.G.Group.meaning b c.args.dealer (omega (arith, c.if-count-naming-self.true))
+    many_complaints g.G.Group.meaning b c.args.dealer (omega (arith, c.if-count_naming-self.true))
 
 pub returns : goal.returns
 returns g c =
     let b = board_of g.G.Group.meaning (state_of c.args.self.now) in
-    let k : c.count-naming.result ≡ complaints b c.args.dealer = c.count-naming.ensures in
+    let k : c.count_naming.result ≡ complaints b c.args.dealer = c.count_naming.ensures in
     let t : c.args.self.now.t ≡ b.t = c.requires.kept.t in
-    c.has-answered-all.ensures
-    ∙ by_answers g.G.Group.meaning b c.args.dealer (sym c.has.ensures ∙ c.if-not-has.false) (omega (arith, c.if-count-naming-self.false))
+    c.has_answered_all.ensures
+    ∙ by_answers g.G.Group.meaning b c.args.dealer (sym c.has.ensures ∙ c.if-not-has.false) (omega (arith, c.if-count_naming-self.false))

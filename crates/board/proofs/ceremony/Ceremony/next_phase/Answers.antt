@@ -49,20 +49,20 @@ returns-in-Finished g c = λ bytes of none.
     let m = g.G.Group.meaning in
     next_is m (board_of m (state_of c.args.self.now)) bytes none of.named phases.Finished (sym c.in-Finished.is ∙ c.requires.kept.phase)
 
-pub returns-then-qualified-count-self : goal.returns-then-qualified-count-self
-returns-then-qualified-count-self g c = λ bytes of none.
+pub returns-then-qualified_count-self : goal.returns-then-qualified_count-self
+returns-then-qualified_count-self g c = λ bytes of none.
     let m = g.G.Group.meaning in
     let b = board_of m (state_of c.args.self.now) in
-    let k : c.qualified-count.result ≡ count b.n (qualified m b) = c.qualified-count.ensures in
+    let k : c.qualified_count.result ≡ count b.n (qualified m b) = c.qualified_count.ensures in
     let t : c.args.self.now.t ≡ b.t = c.requires.kept.t in
-    sym (ap (following phases.Answering) (le-leb (count b.n (qualified m b)) b.t (omega (arith, c.if-qualified-count-self.true))))
+    sym (ap (following phases.Answering) (le-leb (count b.n (qualified m b)) b.t (omega (arith, c.if-qualified_count-self.true))))
     ∙ next_is m b bytes none of.named phases.Answering (sym c.in-Answering.is ∙ c.requires.kept.phase)
 
-pub returns-else-qualified-count-self : goal.returns-else-qualified-count-self
-returns-else-qualified-count-self g c = λ bytes of none.
+pub returns-else-qualified_count-self : goal.returns-else-qualified_count-self
+returns-else-qualified_count-self g c = λ bytes of none.
     let m = g.G.Group.meaning in
     let b = board_of m (state_of c.args.self.now) in
-    let k : c.qualified-count.result ≡ count b.n (qualified m b) = c.qualified-count.ensures in
+    let k : c.qualified_count.result ≡ count b.n (qualified m b) = c.qualified_count.ensures in
     let t : c.args.self.now.t ≡ b.t = c.requires.kept.t in
-    sym (ap (following phases.Answering) (lt-leb (count b.n (qualified m b)) b.t (omega (arith, c.if-qualified-count-self.false))))
+    sym (ap (following phases.Answering) (lt-leb (count b.n (qualified m b)) b.t (omega (arith, c.if-qualified_count-self.false))))
     ∙ next_is m b bytes none of.named phases.Answering (sym c.in-Answering.is ∙ c.requires.kept.phase)

@@ -6,13 +6,13 @@ use Rattle.board_index.specs.State.{board_of}
 use Rattle.board.specs.State.{state_of}
 use Rattle.board.proofs.SeatLoops.{count_none, count_more, count_same}
 use Rattle.board.proofs.ceremony.Ceremony.qualified_count.Goals as goal
-use Rattle.board.proofs.ceremony.Ceremony.qualified_count.Goals.{then-is-qualified, else-is-qualified}
+use Rattle.board.proofs.ceremony.Ceremony.qualified_count.Goals.{then-is_qualified, else-is_qualified}
 
 pub loop-i-init : goal.loop-i-init
 loop-i-init g c = count_none (qualified g.G.Group.meaning (board_of g.G.Group.meaning (state_of c.args.self.now)))
 
-pub overflow-add-dealers : goal.overflow-add-dealers
-overflow-add-dealers g c =
+pub overflow_add-dealers : goal.overflow_add-dealers
+overflow_add-dealers g c =
     let P : ℕ → Bool = qualified g.G.Group.meaning (board_of g.G.Group.meaning (state_of c.args.self.now)) in
     let low = count_below (c.loop-i.i - 1) P in
     let so : c.loop-i.dealers ≡ count (c.loop-i.i - 1) P = c.loop-i.invariant in
@@ -22,9 +22,9 @@ overflow-add-dealers g c =
 pub loop-i-preserved : goal.loop-i-preserved
 loop-i-preserved g c =
     let P : ℕ → Bool = qualified g.G.Group.meaning (board_of g.G.Group.meaning (state_of c.args.self.now)) in
-    elim c.if-is-qualified.branch [
-      | then-is-qualified w ↦ w.dealers-is ∙ ap (λ (n : ℕ). n + 1) c.loop-i.invariant ∙ count_more P c.loop-i.i c.loop-i.auto.i (sym c.is_qualified_lem.ensures ∙ w.if-is-qualified.true)
-      | else-is-qualified w ↦ w.dealers-is ∙ c.loop-i.invariant ∙ count_same P c.loop-i.i c.loop-i.auto.i (sym c.is_qualified_lem.ensures ∙ w.if-is-qualified.false)
+    elim c.if-is_qualified.branch [
+      | then-is_qualified w ↦ w.dealers-is ∙ ap (λ (n : ℕ). n + 1) c.loop-i.invariant ∙ count_more P c.loop-i.i c.loop-i.auto.i (sym c.is_qualified.ensures ∙ w.if-is_qualified.true)
+      | else-is_qualified w ↦ w.dealers-is ∙ c.loop-i.invariant ∙ count_same P c.loop-i.i c.loop-i.auto.i (sym c.is_qualified.ensures ∙ w.if-is_qualified.false)
     ]
 
 pub returns : goal.returns

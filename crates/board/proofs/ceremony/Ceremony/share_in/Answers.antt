@@ -11,8 +11,8 @@ pub returns-in-default : goal.returns-in-default
 returns-in-default g c =
     not_stored g.G.Group.meaning (state_of c.args.self.now) c.args.kind c.args.writer c.args.second c.requires.kept c.requires.kind.0 (sym c.find.ensures ∙ c.in-default.is)
 
-pub overflow-add-place : goal.overflow-add-place
-overflow-add-place g c =
+pub overflow_add-place : goal.overflow_add-place
+overflow_add-place g c =
     let m = g.G.Group.meaning in
     let s = state_of c.args.self.now in
     let S = share_at m s c.args.kind c.args.writer c.args.second c.in-Some.place c.requires.kept c.requires.kind.0 c.requires.kind.1 (sym c.find.ensures ∙ c.in-Some.is) in

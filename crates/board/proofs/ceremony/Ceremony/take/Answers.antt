@@ -11,8 +11,8 @@ file-requires g c =
     let none = sym c.requires.checked ∙ ap fault_of c.in-ok-checked.was in
     record {
       kept = c.requires.kept;
-      files = files m S c.args.bytes.now c.args.kind (get_or c.args.bytes.now 4 0) c.second-of-second.result c.is-true-answer-truth.result c.requires.kept
-          c.requires.kind.0 c.requires.kind.1 none refl c.second-of-second.ensures c.is-true-answer-truth.ensures;
+      files = files m S c.args.bytes.now c.args.kind (get_or c.args.bytes.now 4 0) c.second_of-second.result c.is_true_answer-truth.result c.requires.kept
+          c.requires.kind.0 c.requires.kind.1 none refl c.second_of-second.ensures c.is_true_answer-truth.ensures;
     }
 
 pub returns : goal.returns
@@ -21,13 +21,13 @@ returns g c =
     let S = state_of c.args.self.now in
     let bytes = c.args.bytes.now in
     let none = sym c.requires.checked ∙ ap fault_of c.in-ok-checked.was in
-    let F = files m S bytes c.args.kind (get_or bytes 4 0) c.second-of-second.result c.is-true-answer-truth.result c.requires.kept
-    c.requires.kind.0 c.requires.kind.1 none refl c.second-of-second.ensures c.is-true-answer-truth.ensures in
+    let F = files m S bytes c.args.kind (get_or bytes 4 0) c.second_of-second.result c.is_true_answer-truth.result c.requires.kept
+    c.requires.kind.0 c.requires.kind.1 none refl c.second_of-second.ensures c.is_true_answer-truth.ensures in
     record {
-      answer = answered_as m S bytes c.args.kind c.equations-for.result none c.requires.kind.0.named c.equations-for.ensures;
-      after = filed m S bytes c.args.kind (get_or bytes 4 0) c.second-of-second.result c.is-true-answer-truth.result c.requires.kept g.G.Group.lawful F
-          (state_of c.file.new.self) c.file.ensures.state c.equations-for.result;
-      kept = filed_kept m S bytes c.args.kind (get_or bytes 4 0) c.second-of-second.result c.is-true-answer-truth.result c.requires.kept g.G.Group.lawful F
+      answer = answered_as m S bytes c.args.kind c.equations_for.result none c.requires.kind.0.named c.equations_for.ensures;
+      after = filed m S bytes c.args.kind (get_or bytes 4 0) c.second_of-second.result c.is_true_answer-truth.result c.requires.kept g.G.Group.lawful F
+          (state_of c.file.new.self) c.file.ensures.state c.equations_for.result;
+      kept = filed_kept m S bytes c.args.kind (get_or bytes 4 0) c.second_of-second.result c.is_true_answer-truth.result c.requires.kept g.G.Group.lawful F
           (state_of c.file.new.self) c.file.ensures.state;
       lender = c.file.ensures.lender;
     }

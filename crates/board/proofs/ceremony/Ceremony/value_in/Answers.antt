@@ -11,15 +11,15 @@ pub returns-in-default : goal.returns-in-default
 returns-in-default g c =
     not_stored g.G.Group.meaning (state_of c.args.self.now) c.args.kind c.args.dealer 0 c.requires.kept c.requires.kind.0 (sym c.find.ensures ∙ c.in-default.is)
 
-pub overflow-add-place : goal.overflow-add-place
-overflow-add-place g c =
+pub overflow_add-place : goal.overflow_add-place
+overflow_add-place g c =
     let m = g.G.Group.meaning in
     let s = state_of c.args.self.now in
     let E = elements_at m s c.args.kind c.args.dealer c.in-Some.place c.requires.kept c.requires.kind.0 c.requires.kind.1 (sym c.find.ensures ∙ c.in-Some.is) in
     omega (arith, E.within, filled_length m s c.requires.kept, used_narrow m g.G.Group.lawful s c.requires.kept)
 
-pub value-of-known-value-requires : goal.value-of-known-value-requires
-value-of-known-value-requires g c =
+pub value_of_known-value-requires : goal.value_of_known-value-requires
+value_of_known-value-requires g c =
     let m = g.G.Group.meaning in
     let s = state_of c.args.self.now in
     let E = elements_at m s c.args.kind c.args.dealer c.in-Some.place c.requires.kept c.requires.kind.0 c.requires.kind.1 (sym c.find.ensures ∙ c.in-Some.is) in
@@ -30,4 +30,4 @@ returns g c =
     let m = g.G.Group.meaning in
     let s = state_of c.args.self.now in
     let E = elements_at m s c.args.kind c.args.dealer c.in-Some.place c.requires.kept c.requires.kind.0 c.requires.kind.1 (sym c.find.ensures ∙ c.in-Some.is) in
-    (decoded_from (λ at. code_at (filled s) m.w at) m.w (c.in-Some.place + 5) (c.args.self.now.t + 1), E.codes, c.value-of-known-value.ensures)
+    (decoded_from (λ at. code_at (filled s) m.w at) m.w (c.in-Some.place + 5) (c.args.self.now.t + 1), E.codes, c.value_of_known-value.ensures)

@@ -9,13 +9,13 @@ returns-then-writer-gt32 c = search rules
 
 pub returns-then-place-eq0 : goal.returns-then-place-eq0
 returns-then-place-eq0 c =
-    let at = ap (λ (n : ℕ). get_or c.args.self.now.places n 0) c.slot-of.ensures in
+    let at = ap (λ (n : ℕ). get_or c.args.self.now.places n 0) c.slot_of.ensures in
     sym (look_low c.args.self.now.places c.args.kind c.args.writer c.args.second c.if-writer-gt32.false c.if-second-gt32.false
     ∙ ap unless_zero (sym at ∙ c.if-place-eq0.true))
 
 pub returns : goal.returns
 returns c =
-    let at = ap (λ (n : ℕ). get_or c.args.self.now.places n 0) c.slot-of.ensures in
+    let at = ap (λ (n : ℕ). get_or c.args.self.now.places n 0) c.slot_of.ensures in
     unless_zero_some _ c.if-place-eq0.false
     ∙ ap unless_zero at
     ∙ sym (look_low c.args.self.now.places c.args.kind c.args.writer c.args.second c.if-writer-gt32.false c.if-second-gt32.false)

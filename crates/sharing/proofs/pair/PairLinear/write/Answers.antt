@@ -12,5 +12,5 @@ returns g c =
     let out = c.args.out.now in
     let at = c.args.at in
     c.write-2.ensures
-    ∙ ap₂ (λ (d : List ℕ) (w : ℕ). paste d (at + w) right b.width) c.write.ensures c.code-width.ensures
+    ∙ ap₂ (λ (d : List ℕ) (w : ℕ). paste d (at + w) right b.width) c.write.ensures c.code_width.ensures
     ∙ paste-paste out at left right a.width b.width (sym (a.encoded_length (a.of c.args.self.left))) (sym (b.encoded_length (b.of c.args.self.right))) (omega (arith, c.requires))

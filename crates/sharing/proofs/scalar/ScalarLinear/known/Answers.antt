@@ -11,5 +11,5 @@ returns g c =
     let n = code_at bytes m.s c.args.at in
     let below = ltb-true n m.q (scalar_judged m bytes c.args.at c.requires.taken) in
     c.reduced.ensures
-    ∙ ap (λ (x : ℕ). x % m.q) (c.read-code.ensures ∙ ap (λ (w : ℕ). code_at bytes w c.args.at) c.scalar-width.ensures)
+    ∙ ap (λ (x : ℕ). x % m.q) (c.read_code.ensures ∙ ap (λ (w : ℕ). code_at bytes w c.args.at) c.scalar_width.ensures)
     ∙ mod-eq_of_lt below
