@@ -18,10 +18,10 @@ use std::marker::PhantomData;
 impl<'a, G: Group> Ceremony<'a, G> {
     // A Close ends the phase that it names; the last one needs the Reveals.
     pub(crate) fn check_close(&self, bytes: &[u8]) -> Result<(), CeremonyFault>
-        requires kept { Kept meaning (state_of self.now) }
-        requires kind { OfKind meaning self.now.t bytes.now Close }
+        requires kept { Kept G.meaning (state_of self.now) }
+        requires kind { OfKind G.meaning self.now.t bytes.now Close }
         requires phase { (1 ≤ phase_number self.now.phase) × (phase_number self.now.phase ≤ 6) }
-        ensures { fault_of result ≡ posting_fault meaning (board_of meaning (state_of self.now)) bytes.now }
+        ensures { fault_of result ≡ posting_fault G.meaning (board_of G.meaning (state_of self.now)) bytes.now }
     {
         let phase = self.phase.number();
         if bytes[4] != phase {
@@ -35,8 +35,8 @@ impl<'a, G: Group> Ceremony<'a, G> {
 
     // The phase that a Close begins; the ceremony is void where t or fewer dealers are qualified.
     fn next_phase(&self) -> Phase
-        requires kept { Kept meaning (state_of self.now) }
-        ensures { (bytes : List ℕ) → OfKind meaning self.now.t bytes Close → posting_fault meaning (board_of meaning (state_of self.now)) bytes ≡ None → result ≡ phase_of meaning (posted meaning (board_of meaning (state_of self.now)) bytes) }
+        requires kept { Kept G.meaning (state_of self.now) }
+        ensures { (bytes : List ℕ) → OfKind G.meaning self.now.t bytes Close → posting_fault G.meaning (board_of G.meaning (state_of self.now)) bytes ≡ None → result ≡ phase_of G.meaning (posted G.meaning (board_of G.meaning (state_of self.now)) bytes) }
     {
         match self.phase {
             Phase::Unopened => Phase::Dealing,
@@ -63,12 +63,12 @@ impl<'a, G: Group> Ceremony<'a, G> {
         checked: Result<(), CeremonyFault>,
         bytes: &[u8],
     ) -> Result<u8, CeremonyFault>
-        requires kept { Kept meaning (state_of self.old) }
-        requires kind { OfKind meaning self.old.t bytes.now Close }
-        requires checked { fault_of checked ≡ posting_fault meaning (board_of meaning (state_of self.old)) bytes.now }
-        ensures answer { result ≡ posting_answer meaning (board_of meaning (state_of self.old)) bytes.now }
-        ensures after { AfterPosting meaning (state_of self.old) bytes.now result (state_of self.new) }
-        ensures kept { Kept meaning (state_of self.new) }
+        requires kept { Kept G.meaning (state_of self.old) }
+        requires kind { OfKind G.meaning self.old.t bytes.now Close }
+        requires checked { fault_of checked ≡ posting_fault G.meaning (board_of G.meaning (state_of self.old)) bytes.now }
+        ensures answer { result ≡ posting_answer G.meaning (board_of G.meaning (state_of self.old)) bytes.now }
+        ensures after { AfterPosting G.meaning (state_of self.old) bytes.now result (state_of self.new) }
+        ensures kept { Kept G.meaning (state_of self.new) }
         ensures lender { self.new.area.ghost_name ≡ self.old.area.ghost_name }
     {
         let _of: PhantomData<G> = PhantomData;

@@ -18,7 +18,7 @@ use std::marker::PhantomData;
 
 // The bytes that an area must have for all records of n seats with the threshold t.
 pub fn area_needed<G: Group>(n: u8, t: u8) -> usize
-    ensures { result ≡ area_needed meaning n t }
+    ensures { result ≡ area_needed G.meaning n t }
 {
     let n = n as usize;
     let elements = 5 + (t as usize + 1) * G::width();
@@ -30,8 +30,8 @@ impl<'a, G: Group> Ceremony<'a, G> {
     // A ceremony over an area, unopened.
     pub fn new(area: &'a mut [u8]) -> Ceremony<'a, G>
         ensures area { ((state_of result).area ≡ area.old) × ((state_of result).used ≡ 0) }
-        ensures board { board_of meaning (state_of result) ≡ empty }
-        ensures kept { Kept meaning (state_of result) }
+        ensures board { board_of G.meaning (state_of result) ≡ empty }
+        ensures kept { Kept G.meaning (state_of result) }
         ensures lender { result.area.ghost_name ≡ area.entry.ghost_name }
     {
         Ceremony {
@@ -47,8 +47,8 @@ impl<'a, G: Group> Ceremony<'a, G> {
 
     // What is said against an Opening.
     fn check_opening(&self, bytes: &[u8]) -> Result<(), CeremonyFault>
-        requires { Kept meaning (state_of self.now) }
-        ensures { fault_of result ≡ opening_fault meaning (board_of meaning (state_of self.now)) (length self.now.area.now) bytes.now }
+        requires { Kept G.meaning (state_of self.now) }
+        ensures { fault_of result ≡ opening_fault G.meaning (board_of G.meaning (state_of self.now)) (length self.now.area.now) bytes.now }
     {
         if read_frame(bytes)? != 1 {
             return Err(CeremonyFault::Record(RecordFault::Kind { place: 2 }));
@@ -78,10 +78,10 @@ impl<'a, G: Group> Ceremony<'a, G> {
 
     // Opens the ceremony: n, t and the label are those of the record.
     pub fn open(&mut self, bytes: &[u8]) -> Result<(), CeremonyFault>
-        requires { Kept meaning (state_of self.old) }
-        ensures answer { result ≡ opening_answer meaning (board_of meaning (state_of self.old)) (length (state_of self.old).area) bytes.now tt }
-        ensures after { AfterOpening meaning (state_of self.old) bytes.now result (state_of self.new) }
-        ensures kept { Kept meaning (state_of self.new) }
+        requires { Kept G.meaning (state_of self.old) }
+        ensures answer { result ≡ opening_answer G.meaning (board_of G.meaning (state_of self.old)) (length (state_of self.old).area) bytes.now tt }
+        ensures after { AfterOpening G.meaning (state_of self.old) bytes.now result (state_of self.new) }
+        ensures kept { Kept G.meaning (state_of self.new) }
         ensures lender { self.new.area.ghost_name ≡ self.old.area.ghost_name }
     {
         let _of: PhantomData<G> = PhantomData;

@@ -32,8 +32,8 @@ fn equations_for(kind: Kind) -> u8
 
 // The second seat that a record names, 0 where its kind has none.
 fn second_of<G: Group>(kind: Kind, bytes: &[u8], t: u8) -> u8
-    requires { OfKind meaning t bytes.now kind }
-    ensures { result ≡ (read_record meaning t kind bytes.now).second }
+    requires { OfKind G.meaning t bytes.now kind }
+    ensures { result ≡ (read_record G.meaning t kind bytes.now).second }
 {
     match kind {
         Kind::Complaint | Kind::Answer | Kind::Objection | Kind::Reveal => bytes[5],
@@ -56,8 +56,8 @@ impl<'a, G: Group> Ceremony<'a, G> {
 
     // Takes a record against which nothing is said, and notes it in the index.
     fn file(&mut self, bytes: &[u8], kind: Kind, writer: u8, second: u8, truth: bool)
-        requires kept { Kept meaning (state_of self.old) }
-        requires files { Files meaning (state_of self.old) bytes.now kind writer second truth }
+        requires kept { Kept G.meaning (state_of self.old) }
+        requires files { Files G.meaning (state_of self.old) bytes.now kind writer second truth }
         ensures state { state_of self.new ≡ filed_at (state_of self.old) bytes.now kind writer second truth }
         ensures lender { self.new.area.ghost_name ≡ self.old.area.ghost_name }
     {
@@ -68,10 +68,10 @@ impl<'a, G: Group> Ceremony<'a, G> {
 
     // Whether a record that nothing is said against is a true Answer.
     fn is_true_answer(&self, kind: Kind, bytes: &[u8]) -> bool
-        requires kept { Kept meaning (state_of self.now) }
-        requires kind { OfKind meaning self.now.t bytes.now kind }
-        requires taken { posting_fault meaning (board_of meaning (state_of self.now)) bytes.now ≡ None }
-        ensures { kind ≡ Answer → result ≡ passes1 meaning (board_of meaning (state_of self.now)) (read_record meaning self.now.t Answer bytes.now).writer (read_record meaning self.now.t Answer bytes.now).second (share_in (read_record meaning self.now.t Answer bytes.now).codes) }
+        requires kept { Kept G.meaning (state_of self.now) }
+        requires kind { OfKind G.meaning self.now.t bytes.now kind }
+        requires taken { posting_fault G.meaning (board_of G.meaning (state_of self.now)) bytes.now ≡ None }
+        ensures { kind ≡ Answer → result ≡ passes1 G.meaning (board_of G.meaning (state_of self.now)) (read_record G.meaning self.now.t Answer bytes.now).writer (read_record G.meaning self.now.t Answer bytes.now).second (share_in (read_record G.meaning self.now.t Answer bytes.now).codes) }
     {
         match kind {
             Kind::Answer => self.opens_in(bytes, bytes[4], bytes[5]),
@@ -86,12 +86,12 @@ impl<'a, G: Group> Ceremony<'a, G> {
         kind: Kind,
         bytes: &[u8],
     ) -> Result<u8, CeremonyFault>
-        requires kept { Kept meaning (state_of self.old) }
-        requires kind { (OfKind meaning self.old.t bytes.now kind) × (is_indexed kind ≡ true) }
-        requires checked { fault_of checked ≡ posting_fault meaning (board_of meaning (state_of self.old)) bytes.now }
-        ensures answer { result ≡ posting_answer meaning (board_of meaning (state_of self.old)) bytes.now }
-        ensures after { AfterPosting meaning (state_of self.old) bytes.now result (state_of self.new) }
-        ensures kept { Kept meaning (state_of self.new) }
+        requires kept { Kept G.meaning (state_of self.old) }
+        requires kind { (OfKind G.meaning self.old.t bytes.now kind) × (is_indexed kind ≡ true) }
+        requires checked { fault_of checked ≡ posting_fault G.meaning (board_of G.meaning (state_of self.old)) bytes.now }
+        ensures answer { result ≡ posting_answer G.meaning (board_of G.meaning (state_of self.old)) bytes.now }
+        ensures after { AfterPosting G.meaning (state_of self.old) bytes.now result (state_of self.new) }
+        ensures kept { Kept G.meaning (state_of self.new) }
         ensures lender { self.new.area.ghost_name ≡ self.old.area.ghost_name }
     {
         let _of: PhantomData<G> = PhantomData;
@@ -104,10 +104,10 @@ impl<'a, G: Group> Ceremony<'a, G> {
 
     // Posts a record, and tells how many equations were tested for it.
     pub fn post(&mut self, bytes: &[u8]) -> Result<u8, CeremonyFault>
-        requires { Kept meaning (state_of self.old) }
-        ensures answer { result ≡ posting_answer meaning (board_of meaning (state_of self.old)) bytes.now }
-        ensures after { AfterPosting meaning (state_of self.old) bytes.now result (state_of self.new) }
-        ensures kept { Kept meaning (state_of self.new) }
+        requires { Kept G.meaning (state_of self.old) }
+        ensures answer { result ≡ posting_answer G.meaning (board_of G.meaning (state_of self.old)) bytes.now }
+        ensures after { AfterPosting G.meaning (state_of self.old) bytes.now result (state_of self.new) }
+        ensures kept { Kept G.meaning (state_of self.new) }
         ensures lender { self.new.area.ghost_name ≡ self.old.area.ghost_name }
     {
         let _of: PhantomData<G> = PhantomData;

@@ -22,7 +22,7 @@ fn check_coefficients<G: Group>(
     seat: u8,
 ) -> Result<(), DealingFault>
     requires { count ≤ 256 }
-    ensures { result ≡ where_passed meaning coefficients.now count seat (Ok tt) }
+    ensures { result ≡ where_passed G.meaning coefficients.now count seat (Ok tt) }
 {
     if coefficients.len() != 2 * (count * G::scalar_width()) {
         return Err(DealingFault::Length);
@@ -36,10 +36,10 @@ fn check_coefficients<G: Group>(
 
 // Writes the codes of C_0 .. C_t from a place on.
 fn write_commitments<G: Group>(coefficients: &[u8], count: usize, out: &mut [u8], at: usize)
-    requires given { length coefficients.now ≡ 2 * (count * meaning.s) }
-    requires taken { refused_from (scalar_refused meaning coefficients.now) meaning.s 0 (2 * count) ≡ None }
-    requires room { at + count * meaning.w ≤ length out.old }
-    ensures { out.new ≡ paste out.old at (codes_of meaning.w (commitments_of meaning coefficients.now count)) (count * meaning.w) }
+    requires given { length coefficients.now ≡ 2 * (count * G.meaning.s) }
+    requires taken { refused_from (scalar_refused G.meaning coefficients.now) G.meaning.s 0 (2 * count) ≡ None }
+    requires room { at + count * G.meaning.w ≤ length out.old }
+    ensures { out.new ≡ paste out.old at (codes_of G.meaning.w (commitments_of G.meaning coefficients.now count)) (count * G.meaning.w) }
 {
     let s = G::scalar_width();
     let w = G::width();
@@ -57,7 +57,7 @@ pub fn draw_up_deal<G: Group>(
     coefficients: &[u8],
     out: &mut [u8],
 ) -> Result<usize, DealingFault>
-    ensures { Writes (deal_drawn_up meaning seat (t + 1) coefficients.now (length out.old)) out.old result out.new }
+    ensures { Writes (deal_drawn_up G.meaning seat (t + 1) coefficients.now (length out.old)) out.old result out.new }
 {
     let count = t as usize + 1;
     check_coefficients::<G>(coefficients, count, seat)?;
@@ -79,7 +79,7 @@ pub fn draw_up_share<G: Group>(
     seat: u8,
     out: &mut [u8],
 ) -> Result<usize, DealingFault>
-    ensures { Writes (share_drawn_up meaning (t + 1) coefficients.now seat (length out.old)) out.old result out.new }
+    ensures { Writes (share_drawn_up G.meaning (t + 1) coefficients.now seat (length out.old)) out.old result out.new }
 {
     let count = t as usize + 1;
     check_coefficients::<G>(coefficients, count, seat)?;

@@ -18,7 +18,7 @@ pub fn test_share<G: Group>(
     share: &[u8],
     seat: u8,
 ) -> Result<Sides, DealingFault>
-    ensures { result ≡ sides_of meaning (t + 1) commitments.now share.now seat }
+    ensures { result ≡ sides_of G.meaning (t + 1) commitments.now share.now seat }
 {
     let count = t as usize + 1;
     if commitments.len() != count * G::width() || share.len() != 2 * G::scalar_width() {

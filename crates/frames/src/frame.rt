@@ -24,7 +24,7 @@ pub fn read_frame(bytes: &[u8]) -> Result<u32, RecordFault>
 
 // What the length field of a record of a kind must say.
 pub fn length_for<G: Group>(kind: Kind, t: u8) -> usize
-    ensures { result ≡ length_of meaning t (layout_of kind) }
+    ensures { result ≡ length_of G.meaning t (layout_of kind) }
 {
     match kind {
         Kind::Deal | Kind::Exposure => 3 + (t as usize + 1) * G::width(),
@@ -44,7 +44,7 @@ pub fn is_posted(kind: Kind) -> bool
 
 // The kind of a record that can be posted, where its length is right.
 pub fn read_kind<G: Group>(bytes: &[u8], t: u8) -> Result<Kind, RecordFault>
-    ensures { ReadsKind meaning t bytes.now result }
+    ensures { ReadsKind G.meaning t bytes.now result }
 {
     let number = read_frame(bytes)?;
     let Some(kind) = Kind::with_number(number) else {

@@ -18,8 +18,8 @@ use protocol::phase::Phase;
 
 // A_0 of a dealer, the unit where it has no Exposure.
 fn first_of<G: Group>(ceremony: &Ceremony<'_, G>, dealer: u8) -> G::Element
-    requires { Kept meaning (state_of ceremony.now) }
-    ensures { number_of result ≡ first_or meaning.unit (exposure_of (board_of meaning (state_of ceremony.now)) dealer) }
+    requires { Kept G.meaning (state_of ceremony.now) }
+    ensures { G.number_of result ≡ first_or G.meaning.unit (exposure_of (board_of G.meaning (state_of ceremony.now)) dealer) }
 {
     match ceremony.first_exposed(dealer) {
         Some(first) => first,
@@ -29,8 +29,8 @@ fn first_of<G: Group>(ceremony: &Ceremony<'_, G>, dealer: u8) -> G::Element
 
 // A dealer's factor of the key: A_0, or g^z where the dealer is contested.
 fn key_part<G: Group>(ceremony: &Ceremony<'_, G>, dealer: u8) -> G::Element
-    requires { Kept meaning (state_of ceremony.now) }
-    ensures { number_of result ≡ key_part meaning (board_of meaning (state_of ceremony.now)) dealer }
+    requires { Kept G.meaning (state_of ceremony.now) }
+    ensures { G.number_of result ≡ key_part G.meaning (board_of G.meaning (state_of ceremony.now)) dealer }
 {
     if ceremony.is_contested(dealer) {
         let share = revealed_share(ceremony, dealer);
@@ -41,8 +41,8 @@ fn key_part<G: Group>(ceremony: &Ceremony<'_, G>, dealer: u8) -> G::Element
 
 // The product over the qualified dealers. It is the key once the ceremony is finished.
 pub fn key_of<G: Group>(ceremony: &Ceremony<'_, G>) -> G::Element
-    requires { Kept meaning (state_of ceremony.now) }
-    ensures { number_of result ≡ key meaning (board_of meaning (state_of ceremony.now)) }
+    requires { Kept G.meaning (state_of ceremony.now) }
+    ensures { G.number_of result ≡ key G.meaning (board_of G.meaning (state_of ceremony.now)) }
 {
     let mut product = G::unit();
     for i in (1..ceremony.n() + 1).rev() {
@@ -58,9 +58,9 @@ pub fn write_key<G: Group>(
     ceremony: &Ceremony<'_, G>,
     out: &mut [u8],
 ) -> Result<usize, CeremonyFault>
-    requires { Kept meaning (state_of ceremony.now) }
-    ensures answer { result ≡ answer_of (key_fault meaning (board_of meaning (state_of ceremony.now)) (length out.old)) meaning.w }
-    ensures output { out.new ≡ after_key meaning (board_of meaning (state_of ceremony.now)) out.old }
+    requires { Kept G.meaning (state_of ceremony.now) }
+    ensures answer { result ≡ answer_of (key_fault G.meaning (board_of G.meaning (state_of ceremony.now)) (length out.old)) G.meaning.w }
+    ensures output { out.new ≡ after_key G.meaning (board_of G.meaning (state_of ceremony.now)) out.old }
 {
     let Phase::Finished = ceremony.phase() else {
         return Err(CeremonyFault::OutOfPhase { place: 0 });

@@ -17,10 +17,10 @@ use sharing::linear::Linear;
 
 // Finds the lowest seats that have revealed for a dealer, t + 1 at most, and tells how many they are.
 fn find_serving<G: Group>(ceremony: &Ceremony<'_, G>, dealer: u8, seats: &mut [u8]) -> usize
-    requires kept { Kept meaning (state_of ceremony.now) }
+    requires kept { Kept G.meaning (state_of ceremony.now) }
     requires room { 16 ≤ length seats.old }
     ensures within { result ≤ 16 }
-    ensures seats { take result seats.new ≡ serving_seats (board_of meaning (state_of ceremony.now)) dealer }
+    ensures seats { take result seats.new ≡ serving_seats (board_of G.meaning (state_of ceremony.now)) dealer }
 {
     let t = ceremony.t() as usize;
     let mut count = 0;
@@ -35,8 +35,8 @@ fn find_serving<G: Group>(ceremony: &Ceremony<'_, G>, dealer: u8, seats: &mut [u
 
 // The share that a seat has revealed for a dealer, two zeros where it has revealed none.
 fn share_of<G: Group>(ceremony: &Ceremony<'_, G>, dealer: u8, seat: u8) -> Share<G>
-    requires { Kept meaning (state_of ceremony.now) }
-    ensures { (scalar_of result.left.value, scalar_of result.right.value) ≡ share_of (board_of meaning (state_of ceremony.now)) dealer seat }
+    requires { Kept G.meaning (state_of ceremony.now) }
+    ensures { (G.scalar_of result.left.value, G.scalar_of result.right.value) ≡ share_of (board_of G.meaning (state_of ceremony.now)) dealer seat }
 {
     match ceremony.share_in(Kind::Reveal, seat, dealer) {
         Some(share) => share,
@@ -46,9 +46,9 @@ fn share_of<G: Group>(ceremony: &Ceremony<'_, G>, dealer: u8, seat: u8) -> Share
 
 // Writes the shares of these seats one after another.
 fn write_shares<G: Group>(ceremony: &Ceremony<'_, G>, dealer: u8, seats: &[u8], out: &mut [u8])
-    requires kept { Kept meaning (state_of ceremony.now) }
-    requires room { length seats.now * (meaning.s + meaning.s) ≤ length out.old }
-    ensures { out.new ≡ written_in out.old (pair_codes meaning.s (map (share_of (board_of meaning (state_of ceremony.now)) dealer) seats.now)) }
+    requires kept { Kept G.meaning (state_of ceremony.now) }
+    requires room { length seats.now * (G.meaning.s + G.meaning.s) ≤ length out.old }
+    ensures { out.new ≡ written_in out.old (pair_codes G.meaning.s (map (share_of (board_of G.meaning (state_of ceremony.now)) dealer) seats.now)) }
 {
     let width = <Share<G> as Linear<G>>::code_width();
     for k in 0..seats.len() {
@@ -58,8 +58,8 @@ fn write_shares<G: Group>(ceremony: &Ceremony<'_, G>, dealer: u8, seats: &[u8], 
 
 // The share (z, z') that the serving Reveals for a dealer interpolate to.
 pub fn revealed_share<G: Group>(ceremony: &Ceremony<'_, G>, dealer: u8) -> Share<G>
-    requires { Kept meaning (state_of ceremony.now) }
-    ensures { (scalar_of result.left.value, scalar_of result.right.value) ≡ revealed_share meaning (board_of meaning (state_of ceremony.now)) dealer }
+    requires { Kept G.meaning (state_of ceremony.now) }
+    ensures { (G.scalar_of result.left.value, G.scalar_of result.right.value) ≡ revealed_share G.meaning (board_of G.meaning (state_of ceremony.now)) dealer }
 {
     // t is 15 at most, and a share has two codes of four bytes at most.
     let mut serving = [0; 16];

@@ -18,8 +18,8 @@ use protocol::state::SeatState;
 
 // Whether Close 3 is still to come.
 fn are_answers_open<G: Group>(ceremony: &Ceremony<'_, G>) -> bool
-    requires { Kept meaning (state_of ceremony.now) }
-    ensures { result ≡ nat_lt (starts (board_of meaning (state_of ceremony.now)).taken) 4 }
+    requires { Kept G.meaning (state_of ceremony.now) }
+    ensures { result ≡ nat_lt (starts (board_of G.meaning (state_of ceremony.now)).taken) 4 }
 {
     match ceremony.phase() {
         Phase::Unopened | Phase::Dealing | Phase::Complaining | Phase::Answering => true,
@@ -29,8 +29,8 @@ fn are_answers_open<G: Group>(ceremony: &Ceremony<'_, G>) -> bool
 
 // The state of a seat; absent where there is no such seat.
 pub fn state_of<G: Group>(ceremony: &Ceremony<'_, G>, seat: u8) -> SeatState
-    requires { Kept meaning (state_of ceremony.now) }
-    ensures { result ≡ seat_state meaning (board_of meaning (state_of ceremony.now)) seat }
+    requires { Kept G.meaning (state_of ceremony.now) }
+    ensures { result ≡ seat_state G.meaning (board_of G.meaning (state_of ceremony.now)) seat }
 {
     if !ceremony.has(Kind::Deal, seat, 0) {
         return SeatState::Absent;
@@ -49,8 +49,8 @@ pub fn state_of<G: Group>(ceremony: &Ceremony<'_, G>, seat: u8) -> SeatState
 
 // The row of a seat.
 fn row_of<G: Group>(ceremony: &Ceremony<'_, G>, seat: u8) -> SeatRow
-    requires { Kept meaning (state_of ceremony.now) }
-    ensures { result ≡ seat_row meaning (board_of meaning (state_of ceremony.now)) seat }
+    requires { Kept G.meaning (state_of ceremony.now) }
+    ensures { result ≡ seat_row G.meaning (board_of G.meaning (state_of ceremony.now)) seat }
 {
     SeatRow {
         state: state_of(ceremony, seat),
@@ -63,9 +63,9 @@ pub fn seat_list<G: Group>(
     ceremony: &Ceremony<'_, G>,
     rows: &mut [SeatRow],
 ) -> Result<(), CeremonyFault>
-    requires { Kept meaning (state_of ceremony.now) }
-    ensures answer { result ≡ answer_of (seat_list_fault meaning (board_of meaning (state_of ceremony.now)) (length rows.old)) tt }
-    ensures rows { rows.new ≡ after_seat_list meaning (board_of meaning (state_of ceremony.now)) rows.old }
+    requires { Kept G.meaning (state_of ceremony.now) }
+    ensures answer { result ≡ answer_of (seat_list_fault G.meaning (board_of G.meaning (state_of ceremony.now)) (length rows.old)) tt }
+    ensures rows { rows.new ≡ after_seat_list G.meaning (board_of G.meaning (state_of ceremony.now)) rows.old }
 {
     if let Phase::Unopened = ceremony.phase() {
         return Err(CeremonyFault::OutOfPhase { place: 0 });

@@ -26,14 +26,14 @@ fn frame_size(bytes: &[u8]) -> Option<usize>
 
 // Posts the records of a file, and stops at the first frame that is broken.
 pub fn replay<G: Group>(ceremony: &mut Ceremony<'_, G>, file: &[u8]) -> Replayed
-    requires { Kept meaning (state_of ceremony.old) }
-    ensures board { board_of meaning (state_of ceremony.new) ≡ board_replayed meaning (board_of meaning (state_of ceremony.old)) (frames_of file.now) }
-    ensures area { area_of (state_of ceremony.new) ≡ area_replayed meaning (area_of (state_of ceremony.old)) (frames_of file.now) }
-    ensures equations { result.equations ≡ equations_replayed meaning (board_of meaning (state_of ceremony.old)) (frames_of file.now) }
-    ensures taken { result.taken ≡ taken_of meaning (board_of meaning (state_of ceremony.old)) (frames_of file.now) }
-    ensures refused { result.refused ≡ refused_of meaning (board_of meaning (state_of ceremony.old)) (frames_of file.now) }
+    requires { Kept G.meaning (state_of ceremony.old) }
+    ensures board { board_of G.meaning (state_of ceremony.new) ≡ board_replayed G.meaning (board_of G.meaning (state_of ceremony.old)) (frames_of file.now) }
+    ensures area { area_of (state_of ceremony.new) ≡ area_replayed G.meaning (area_of (state_of ceremony.old)) (frames_of file.now) }
+    ensures equations { result.equations ≡ equations_replayed G.meaning (board_of G.meaning (state_of ceremony.old)) (frames_of file.now) }
+    ensures taken { result.taken ≡ taken_of G.meaning (board_of G.meaning (state_of ceremony.old)) (frames_of file.now) }
+    ensures refused { result.refused ≡ refused_of G.meaning (board_of G.meaning (state_of ceremony.old)) (frames_of file.now) }
     ensures broken { result.broken ≡ broken_at file.now }
-    ensures kept { Kept meaning (state_of ceremony.new) }
+    ensures kept { Kept G.meaning (state_of ceremony.new) }
     ensures lender { ceremony.new.area.ghost_name ≡ ceremony.old.area.ghost_name }
 {
     let mut at = 0;

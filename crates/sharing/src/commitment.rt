@@ -18,7 +18,7 @@ pub type Share<G> = Pair<Scalar<G, <G as Group>::Scalar>, Scalar<G, <G as Group>
 
 // g^s·h^s'.
 pub fn commit<G: Group>(share: Share<G>) -> G::Element
-    ensures { number_of result ≡ commitment meaning (scalar_of share.left.value, scalar_of share.right.value) }
+    ensures { G.number_of result ≡ commitment G.meaning (G.scalar_of share.left.value, G.scalar_of share.right.value) }
 {
     let blinded = power_of::<G>(G::h(), share.right.value);
     G::product(power_of::<G>(G::g(), share.left.value), blinded)

@@ -13,12 +13,11 @@ use group::group::Group;
 use group::powers::power_of;
 use std::marker::PhantomData;
 
+#[derive_where(Clone, Copy; E)]
 pub struct Element<G, E> {
     pub value: E,
     pub of: PhantomData<G>,
 }
-
-impl<G, E: Copy> Copy for Element<G, E> {}
 
 impl<E: Copy, G: Group<Element = E>> Linear<G> for Element<G, E> {
     ghost Value = { ℕ };

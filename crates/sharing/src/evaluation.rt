@@ -14,8 +14,8 @@ pub fn judge_codes<G: Group, L: Linear<G>>(
     at: usize,
     count: usize,
 ) -> Result<(), GroupFault>
-    requires { at + count * width ≤ length codes.now }
-    ensures { Judges (refused_from (refusal codes.now) width at count) result }
+    requires { at + count * L.width ≤ length codes.now }
+    ensures { Judges (refused_from (L.refusal codes.now) L.width at count) result }
 {
     let mut place = at;
     for _k in 0..count {
@@ -27,9 +27,9 @@ pub fn judge_codes<G: Group, L: Linear<G>>(
 
 // Horner's rule, over codes that are known to be none that the group refuses.
 pub fn value_of_known<G: Group, L: Linear<G>>(codes: &[u8], at: usize, count: usize, seat: u8) -> L
-    requires within { at + count * width ≤ length codes.now }
-    requires taken { refused_from (refusal codes.now) width at count ≡ None }
-    ensures { of result ≡ value_at sum (decoded_from (decoded codes.now) width at count) seat }
+    requires within { at + count * L.width ≤ length codes.now }
+    requires taken { refused_from (L.refusal codes.now) L.width at count ≡ None }
+    ensures { L.of result ≡ value_at L.sum (decoded_from (L.decoded codes.now) L.width at count) seat }
 {
     let j = G::reduced(seat as u32);
     let mut value = L::zero();
@@ -47,8 +47,8 @@ pub fn evaluate<G: Group, L: Linear<G>>(
     count: usize,
     seat: u8,
 ) -> Result<L, GroupFault>
-    requires { at + count * width ≤ length codes.now }
-    ensures { Reads (refused_from (refusal codes.now) width at count) of (value_at sum (decoded_from (decoded codes.now) width at count) seat) result }
+    requires { at + count * L.width ≤ length codes.now }
+    ensures { Reads (refused_from (L.refusal codes.now) L.width at count) L.of (value_at L.sum (decoded_from (L.decoded codes.now) L.width at count) seat) result }
 {
     judge_codes::<G, L>(codes, at, count)?;
     Ok(value_of_known::<G, L>(codes, at, count, seat))

@@ -12,7 +12,7 @@ use group::group::Group;
 // l - m modulo q.
 fn difference_of<G: Group>(l: u8, m: u8) -> G::Scalar
     requires { (l ≤ 32) × (m ≤ 32) }
-    ensures { scalar_of result ≡ minus meaning.q l m }
+    ensures { G.scalar_of result ≡ minus G.meaning.q l m }
 {
     G::add(G::reduced(l as u32), G::negate(G::reduced(m as u32)))
 }
@@ -20,7 +20,7 @@ fn difference_of<G: Group>(l: u8, m: u8) -> G::Scalar
 // l / (l - m) modulo q, and 1 where l is m.
 pub fn factor_of<G: Group>(l: u8, m: u8) -> G::Scalar
     requires { (l ≤ 32) × (m ≤ 32) }
-    ensures { scalar_of result ≡ factor meaning.q l m }
+    ensures { G.scalar_of result ≡ factor G.meaning.q l m }
 {
     if l == m {
         return G::reduced(1);
@@ -34,7 +34,7 @@ pub fn factor_of<G: Group>(l: u8, m: u8) -> G::Scalar
 // The weight of the seat m among these seats.
 pub fn weight_of<G: Group>(seats: &[u8], m: u8) -> G::Scalar
     requires { (Seats seats.now) × (m ≤ 32) }
-    ensures { scalar_of result ≡ weight meaning.q seats.now m }
+    ensures { G.scalar_of result ≡ weight G.meaning.q seats.now m }
 {
     let mut product = G::reduced(1);
     for k in (0..seats.len()).rev() {
@@ -46,9 +46,9 @@ pub fn weight_of<G: Group>(seats: &[u8], m: u8) -> G::Scalar
 // The sum of weight times entry, over codes that are known to be none that the group refuses.
 pub fn interpolate_known<G: Group, L: Linear<G>>(seats: &[u8], codes: &[u8], at: usize) -> L
     requires seats { Seats seats.now }
-    requires within { at + length seats.now * width ≤ length codes.now }
-    requires taken { refused_from (refusal codes.now) width at (length seats.now) ≡ None }
-    ensures { of result ≡ interpolated sum G.Group.meaning.q (entries_from (decoded codes.now) width at seats.now) }
+    requires within { at + length seats.now * L.width ≤ length codes.now }
+    requires taken { refused_from (L.refusal codes.now) L.width at (length seats.now) ≡ None }
+    ensures { L.of result ≡ interpolated L.sum G.Group.meaning.q (entries_from (L.decoded codes.now) L.width at seats.now) }
 {
     let mut sum = L::zero();
     for k in (0..seats.len()).rev() {
@@ -65,8 +65,8 @@ pub fn interpolate<G: Group, L: Linear<G>>(
     at: usize,
 ) -> Result<L, GroupFault>
     requires seats { Seats seats.now }
-    requires within { at + length seats.now * width ≤ length codes.now }
-    ensures { Reads (refused_from (refusal codes.now) width at (length seats.now)) of (interpolated sum G.Group.meaning.q (entries_from (decoded codes.now) width at seats.now)) result }
+    requires within { at + length seats.now * L.width ≤ length codes.now }
+    ensures { Reads (refused_from (L.refusal codes.now) L.width at (length seats.now)) L.of (interpolated L.sum G.Group.meaning.q (entries_from (L.decoded codes.now) L.width at seats.now)) result }
 {
     judge_codes::<G, L>(codes, at, seats.len())?;
     Ok(interpolate_known::<G, L>(seats, codes, at))

@@ -13,12 +13,11 @@ use group::fault::GroupFault;
 use group::group::Group;
 use std::marker::PhantomData;
 
+#[derive_where(Clone, Copy; S)]
 pub struct Scalar<G, S> {
     pub value: S,
     pub of: PhantomData<G>,
 }
-
-impl<G, S: Copy> Copy for Scalar<G, S> {}
 
 impl<S: Copy, G: Group<Scalar = S>> Linear<G> for Scalar<G, S> {
     ghost Value = { ℕ };

@@ -11,7 +11,7 @@ pub loop-k-preserved : goal.loop-k-preserved
 loop-k-preserved c =
     let x = c.loop-k.x in
     let y = c.loop-k.y in
-    let k = c.loop-k.-k in (
+    let k = c.loop-k._k in (
       subst (λ (v : ℕ). v < 131072) (sym c.shifted-x.ensures) (times_z_lt x c.loop-k.invariant.0),
       ap (λ (v : ℕ). bit_xor (bit_xor c.loop-k.sum (y % 2 * x)) (sum_of_shifts (17 - (k + 1)) v (y / 2))) c.shifted-x.ensures
           ∙ sum_turn c.loop-k.sum (17 - (k + 1)) (17 - k) x y (omega arith) ∙ c.loop-k.invariant.1,
@@ -19,5 +19,5 @@ loop-k-preserved c =
 
 pub returns : goal.returns
 returns c =
-    let e = sym (sum_end c.loop-k.sum (17 - c.loop-k.-k) c.loop-k.x c.loop-k.y (omega arith)) ∙ c.loop-k.invariant.1 in
+    let e = sym (sum_end c.loop-k.sum (17 - c.loop-k._k) c.loop-k.x c.loop-k.y (omega arith)) ∙ c.loop-k.invariant.1 in
     record { value = e; bound = subst (λ (v : ℕ). v < 131072) (sym e) (times_lt c.args.a c.args.b c.requires) }

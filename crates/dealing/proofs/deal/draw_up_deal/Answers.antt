@@ -16,7 +16,7 @@ returns-then-out-size g c =
     let record' = deal m.w c.args.seat (commitments_of m bytes n) in
     let long = deal_length m.w c.args.seat (commitments_of m bytes n) n (decoded_length _ m.s 0 n) in
     let wide = ap (λ (w : ℕ). n * w) c.width.ensures in
-    refused (no_room m bytes n c.args.seat (sym c.check_coefficients.ensures ∙ c.in-ok-check_coefficients.was) (length c.args.out.now) record' (omega (arith, long, wide, c.if-out-size.true))) c.args.out.now
+    refused (no_room m bytes n c.args.seat (sym c.check_coefficients.ensures ∙ c.in_ok-check_coefficients.was) (length c.args.out.now) record' (omega (arith, long, wide, c.if-out-size.true))) c.args.out.now
 
 pub returns : goal.returns
 returns g c =
@@ -30,7 +30,7 @@ returns g c =
     let long = deal_length m.w c.args.seat commitments n many in
     let wide = ap (λ (w : ℕ). n * w) c.width.ensures in
     let size : 5 + n * c.width.result ≡ 5 + n * m.w = omega (arith, wide) in
-    let outcome = drawn_up_lem m bytes n c.args.seat (sym c.check_coefficients.ensures ∙ c.in-ok-check_coefficients.was) (length out) record' (omega (arith, long, wide, c.if-out-size.false)) in
+    let outcome = drawn_up_lem m bytes n c.args.seat (sym c.check_coefficients.ensures ∙ c.in_ok-check_coefficients.was) (length out) record' (omega (arith, long, wide, c.if-out-size.false)) in
     let body = codes_of m.w commitments in
     let pasted =
     c.write_commitments.ensures

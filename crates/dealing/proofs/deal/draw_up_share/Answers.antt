@@ -15,7 +15,7 @@ value_of_known-left-requires g c =
     let m = g.G.Group.meaning in
     let n = c.args.t + 1 in
     let bytes = c.args.coefficients.now in
-    let passed = sym c.check_coefficients.ensures ∙ c.in-ok-check_coefficients.was in
+    let passed = sym c.check_coefficients.ensures ∙ c.in_ok-check_coefficients.was in
     record {
       within = omega (arith, passed_length m bytes n c.args.seat passed);
       taken = taken_front (scalar_refused m bytes) m.s 0 n (2 * n) (omega arith) (passed_codes m bytes n c.args.seat passed);
@@ -26,7 +26,7 @@ value_of_known-right-requires g c =
     let m = g.G.Group.meaning in
     let n = c.args.t + 1 in
     let bytes = c.args.coefficients.now in
-    let passed = sym c.check_coefficients.ensures ∙ c.in-ok-check_coefficients.was in
+    let passed = sym c.check_coefficients.ensures ∙ c.in_ok-check_coefficients.was in
     let place : 0 + n * m.s ≡ n * c.scalar_width-s.result = zero-add (n * m.s) ∙ ap (λ (w : ℕ). n * w) (sym c.scalar_width-s.ensures) in
     let left : 2 * n - n ≡ n = omega arith in
     record {
@@ -43,7 +43,7 @@ returns-then-out-s g c =
     let a = code m.s share.0 in
     let b = code m.s share.1 in
     let long = length-append a b in
-    let passed = sym c.check_coefficients.ensures ∙ c.in-ok-check_coefficients.was in
+    let passed = sym c.check_coefficients.ensures ∙ c.in_ok-check_coefficients.was in
     refused (no_room m bytes n c.args.seat passed (length c.args.out.now) (a ++ b) (omega (arith, long, code_length m.s share.0, code_length m.s share.1, c.scalar_width-s.ensures, c.if-out-s.true))) c.args.out.now
 
 pub returns : goal.returns
@@ -56,7 +56,7 @@ returns g c =
     let a = code m.s share.0 in
     let b = code m.s share.1 in
     let long : 2 * c.scalar_width-s.result ≡ length (a ++ b) = omega (arith, length-append a b, code_length m.s share.0, code_length m.s share.1, c.scalar_width-s.ensures) in
-    let passed = sym c.check_coefficients.ensures ∙ c.in-ok-check_coefficients.was in
+    let passed = sym c.check_coefficients.ensures ∙ c.in_ok-check_coefficients.was in
     let outcome = drawn_up_lem m bytes n c.args.seat passed (length out) (a ++ b) (omega (arith, long, c.if-out-s.false)) in
     let left = c.value_of_known-left.ensures in
     let right = c.value_of_known-right.ensures ∙ ap (λ (w : ℕ). value_at (scalar_sum m.q) (scalars_from m bytes (n * w) n) c.args.seat) c.scalar_width-s.ensures in

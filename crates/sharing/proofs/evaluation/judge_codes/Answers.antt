@@ -6,10 +6,10 @@ use Rattle.sharing.proofs.CodeWalk.{room, refused_here, refused_later, refused_n
 use Rattle.sharing.proofs.evaluation.judge_codes.Goals as goal
 
 pub read-requires : goal.read-requires
-read-requires g c = omega (arith, room c.loop-k.-k c.args.count g.L.Linear.width c.loop-k-test.true, c.loop-k.invariant.0, c.requires)
+read-requires g c = omega (arith, room c.loop-k._k c.args.count g.L.Linear.width c.loop-k-test.true, c.loop-k.invariant.0, c.requires)
 
 pub overflow_add-place : goal.overflow_add-place
-overflow_add-place g c = omega (arith, room c.loop-k.-k c.args.count g.L.Linear.width c.loop-k-test.true, c.loop-k.invariant.0, c.requires, c.code_width-place.ensures)
+overflow_add-place g c = omega (arith, room c.loop-k._k c.args.count g.L.Linear.width c.loop-k-test.true, c.loop-k.invariant.0, c.requires, c.code_width-place.ensures)
 
 pub loop-k-init : goal.loop-k-init
 loop-k-init g c =
@@ -20,12 +20,12 @@ loop-k-init g c =
 pub loop-k-preserved : goal.loop-k-preserved
 loop-k-preserved g c =
     let m = g.L.Linear in
-    let k = c.loop-k.-k in
+    let k = c.loop-k._k in
     let left = c.args.count - (k + 1) in
     let wide = c.code_width-place.ensures in
     let next : c.args.count - k ≡ suc left = omega arith in
     let refusal = m.refusal c.args.codes.now in
-    let none = (read_taken (refusal c.loop-k.place) m.of (m.decoded c.args.codes.now c.loop-k.place) c.read.result c.in-ok-read.field-0 c.read.ensures c.in-ok-read.was).0 in (
+    let none = (read_taken (refusal c.loop-k.place) m.of (m.decoded c.args.codes.now c.loop-k.place) c.read.result c.in_ok-read.field-0 c.read.ensures c.in_ok-read.was).0 in (
       omega (arith, wide, c.loop-k.invariant.0, suc-mul k m.width),
       c.loop-k.invariant.1
           ∙ refused_later refusal m.width c.loop-k.place (c.args.count - k) left next none
@@ -35,18 +35,18 @@ loop-k-preserved g c =
 pub returns : goal.returns
 returns g c =
     let m = g.L.Linear in
-    c.loop-k.invariant.1 ∙ refused_none (m.refusal c.args.codes.now) m.width c.loop-k.place (c.args.count - c.loop-k.-k) (omega arith)
+    c.loop-k.invariant.1 ∙ refused_none (m.refusal c.args.codes.now) m.width c.loop-k.place (c.args.count - c.loop-k._k) (omega arith)
 
-pub returns-in-err-read : goal.returns-in-err-read
-returns-in-err-read g c =
+pub returns-in_err-read : goal.returns-in_err-read
+returns-in_err-read g c =
     let m = g.L.Linear in
     let bytes = c.args.codes.now in
     let refusal = m.refusal bytes in
-    let k = c.loop-k.-k in
+    let k = c.loop-k._k in
     let left = c.args.count - (k + 1) in
     let next : c.args.count - k ≡ suc left = omega arith in
-    let fault = c.in-err-read.field-0.0 in
+    let fault = c.in_err-read.field-0.0 in
     let out = err_from_is_err_and c.from-residual.result c.from-residual.ensures.1 in
-    let here = read_refused (refusal c.loop-k.place) m.of (m.decoded bytes c.loop-k.place) c.read.result fault c.read.ensures c.in-err-read.was in
+    let here = read_refused (refusal c.loop-k.place) m.of (m.decoded bytes c.loop-k.place) c.read.result fault c.read.ensures c.in_err-read.was in
     let all = c.loop-k.invariant.1 ∙ refused_here refusal m.width c.loop-k.place (c.args.count - k) left fault next here in
     judges_refused (refused_from refusal m.width c.args.at c.args.count) c.from-residual.result fault (out.1 ∙ ap Err out.2) all

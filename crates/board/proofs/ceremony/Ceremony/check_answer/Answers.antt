@@ -7,9 +7,9 @@ use Rattle.board.specs.State.{state_of}
 use Rattle.board.proofs.Testing.{behind}
 use Rattle.board.proofs.ceremony.Ceremony.check_answer.Goals as goal
 
-pub returns-in-err-dealer : goal.returns-in-err-dealer
+pub returns-in_err-dealer : goal.returns-in_err-dealer
 unfolding first_fault tests_of
-returns-in-err-dealer g c =
+returns-in_err-dealer g c =
     let h = behind g.G.Group.meaning (state_of c.args.self.now) c.args.bytes.now Answer Answering _ c.requires.kept c.requires.kind c.requires.phase refl (λ e. omega arith) refl in
     search rules
 
@@ -25,9 +25,9 @@ returns-then-has g c =
     let h = behind g.G.Group.meaning (state_of c.args.self.now) c.args.bytes.now Answer Answering _ c.requires.kept c.requires.kind c.requires.phase refl (λ e. omega arith) refl in
     search rules
 
-pub returns-in-err-judge_share : goal.returns-in-err-judge_share
+pub returns-in_err-judge_share : goal.returns-in_err-judge_share
 unfolding first_fault tests_of
-returns-in-err-judge_share g c =
+returns-in_err-judge_share g c =
     let h = behind g.G.Group.meaning (state_of c.args.self.now) c.args.bytes.now Answer Answering _ c.requires.kept c.requires.kind c.requires.phase refl (λ e. omega arith) refl in
     search rules
 

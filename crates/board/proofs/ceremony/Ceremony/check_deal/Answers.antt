@@ -7,9 +7,9 @@ use Rattle.board.specs.State.{state_of}
 use Rattle.board.proofs.Testing.{behind}
 use Rattle.board.proofs.ceremony.Ceremony.check_deal.Goals as goal
 
-pub returns-in-err-writer : goal.returns-in-err-writer
+pub returns-in_err-writer : goal.returns-in_err-writer
 unfolding first_fault tests_of
-returns-in-err-writer g c =
+returns-in_err-writer g c =
     let h = behind g.G.Group.meaning (state_of c.args.self.now) c.args.bytes.now Deal Dealing _ c.requires.kept c.requires.kind c.requires.phase refl (λ e. omega arith) refl in
     search rules
 
@@ -19,9 +19,9 @@ returns-then-has g c =
     let h = behind g.G.Group.meaning (state_of c.args.self.now) c.args.bytes.now Deal Dealing _ c.requires.kept c.requires.kind c.requires.phase refl (λ e. omega arith) refl in
     search rules
 
-pub returns-in-err-judge_elements : goal.returns-in-err-judge_elements
+pub returns-in_err-judge_elements : goal.returns-in_err-judge_elements
 unfolding first_fault tests_of
-returns-in-err-judge_elements g c =
+returns-in_err-judge_elements g c =
     let h = behind g.G.Group.meaning (state_of c.args.self.now) c.args.bytes.now Deal Dealing _ c.requires.kept c.requires.kind c.requires.phase refl (λ e. omega arith) refl in
     search rules
 

@@ -7,9 +7,9 @@ use Rattle.board.specs.State.{state_of}
 use Rattle.board.proofs.Testing.{behind}
 use Rattle.board.proofs.ceremony.Ceremony.check_objection.Goals as goal
 
-pub returns-in-err-objector : goal.returns-in-err-objector
+pub returns-in_err-objector : goal.returns-in_err-objector
 unfolding first_fault tests_of
-returns-in-err-objector g c =
+returns-in_err-objector g c =
     let h = behind g.G.Group.meaning (state_of c.args.self.now) c.args.bytes.now Objection Objecting _ c.requires.kept c.requires.kind c.requires.phase refl (λ e. omega arith) refl in
     search rules
 
@@ -25,9 +25,9 @@ returns-then-has g c =
     let h = behind g.G.Group.meaning (state_of c.args.self.now) c.args.bytes.now Objection Objecting _ c.requires.kept c.requires.kind c.requires.phase refl (λ e. omega arith) refl in
     search rules
 
-pub returns-in-err-judge_share : goal.returns-in-err-judge_share
+pub returns-in_err-judge_share : goal.returns-in_err-judge_share
 unfolding first_fault tests_of
-returns-in-err-judge_share g c =
+returns-in_err-judge_share g c =
     let h = behind g.G.Group.meaning (state_of c.args.self.now) c.args.bytes.now Objection Objecting _ c.requires.kept c.requires.kind c.requires.phase refl (λ e. omega arith) refl in
     search rules
 

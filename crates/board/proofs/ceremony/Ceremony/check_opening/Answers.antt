@@ -3,9 +3,9 @@ use Rattle.protocol.specs.Board.{phase_number}
 use Rattle.protocol.specs.Refusals.{first_fault, opening_fault}
 use Rattle.board.proofs.ceremony.Ceremony.check_opening.Goals as goal
 
-pub returns-in-err-read_frame : goal.returns-in-err-read_frame
+pub returns-in_err-read_frame : goal.returns-in_err-read_frame
 unfolding first_fault opening_fault
-returns-in-err-read_frame g c = search rules
+returns-in_err-read_frame g c = search rules
 
 pub returns-then-branch-ne1 : goal.returns-then-branch-ne1
 unfolding first_fault opening_fault

@@ -7,15 +7,15 @@ use Rattle.board.specs.State.{state_of}
 use Rattle.board.proofs.Testing.{behind}
 use Rattle.board.proofs.ceremony.Ceremony.check_reveal.Goals as goal
 
-pub returns-in-err-writer : goal.returns-in-err-writer
+pub returns-in_err-writer : goal.returns-in_err-writer
 unfolding first_fault tests_of
-returns-in-err-writer g c =
+returns-in_err-writer g c =
     let h = behind g.G.Group.meaning (state_of c.args.self.now) c.args.bytes.now Reveal Revealing _ c.requires.kept c.requires.kind c.requires.phase refl (λ e. omega arith) refl in
     search rules
 
-pub returns-in-err-dealer : goal.returns-in-err-dealer
+pub returns-in_err-dealer : goal.returns-in_err-dealer
 unfolding first_fault tests_of
-returns-in-err-dealer g c =
+returns-in_err-dealer g c =
     let h = behind g.G.Group.meaning (state_of c.args.self.now) c.args.bytes.now Reveal Revealing _ c.requires.kept c.requires.kind c.requires.phase refl (λ e. omega arith) refl in
     search rules
 
@@ -31,9 +31,9 @@ returns-then-has g c =
     let h = behind g.G.Group.meaning (state_of c.args.self.now) c.args.bytes.now Reveal Revealing _ c.requires.kept c.requires.kind c.requires.phase refl (λ e. omega arith) refl in
     search rules
 
-pub returns-in-err-judge_share : goal.returns-in-err-judge_share
+pub returns-in_err-judge_share : goal.returns-in_err-judge_share
 unfolding first_fault tests_of
-returns-in-err-judge_share g c =
+returns-in_err-judge_share g c =
     let h = behind g.G.Group.meaning (state_of c.args.self.now) c.args.bytes.now Reveal Revealing _ c.requires.kept c.requires.kind c.requires.phase refl (λ e. omega arith) refl in
     search rules
 

@@ -10,7 +10,7 @@ pub append-requires : goal.append-requires
 append-requires g c =
     let m = g.G.Group.meaning in
     let S = state_of c.args.self.now in
-    let none = sym c.requires.checked ∙ ap fault_of c.in-ok-checked.was in
+    let none = sym c.requires.checked ∙ ap fault_of c.in_ok-checked.was in
     close_room m g.G.Group.lawful S c.args.bytes.now c.next_phase-next.result c.requires.kept
     (closes m S c.args.bytes.now c.next_phase-next.result c.requires.kind none (c.next_phase-next.ensures c.args.bytes.now c.requires.kind none))
 
@@ -20,7 +20,7 @@ returns g c =
     let S = state_of c.args.self.now in
     let bytes = c.args.bytes.now in
     let next = c.next_phase-next.result in
-    let none = sym c.requires.checked ∙ ap fault_of c.in-ok-checked.was in
+    let none = sym c.requires.checked ∙ ap fault_of c.in_ok-checked.was in
     let C = closes m S bytes next c.requires.kind none (c.next_phase-next.ensures bytes c.requires.kind none) in
     let is = closed_is S (state_of c.append.new.self) bytes next c.append.ensures.state in
     record {

@@ -2,13 +2,13 @@ use Rattle.std.proofs.Common.{◌≡◌, sym, refl, ap, ◌∙◌, rules}
 use Rattle.protocol.specs.Refusals.{first_fault}
 use Rattle.board.proofs.ceremony.Ceremony.two_seats.Goals as goal
 
-pub returns-in-err-writer : goal.returns-in-err-writer
+pub returns-in_err-writer : goal.returns-in_err-writer
 unfolding first_fault
-returns-in-err-writer g c = search rules
+returns-in_err-writer g c = search rules
 
-pub returns-in-err-second : goal.returns-in-err-second
+pub returns-in_err-second : goal.returns-in_err-second
 unfolding first_fault
-returns-in-err-second g c = search rules
+returns-in_err-second g c = search rules
 
 pub returns-then-writer-second : goal.returns-then-writer-second
 unfolding first_fault
