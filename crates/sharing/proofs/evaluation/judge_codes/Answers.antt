@@ -46,7 +46,7 @@ returns-in_err-read g c =
     let left = c.args.count - (k + 1) in
     let next : c.args.count - k ≡ suc left = omega arith in
     let fault = c.in_err-read.field-0.0 in
-    let out = err_from_is_err_and c.from-residual.result c.from-residual.ensures.1 in
+    let out = err_from_is_err_and c.from_residual.result c.from_residual.ensures.1 in
     let here = read_refused (refusal c.loop-k.place) m.of (m.decoded bytes c.loop-k.place) c.read.result fault c.read.ensures c.in_err-read.was in
     let all = c.loop-k.invariant.1 ∙ refused_here refusal m.width c.loop-k.place (c.args.count - k) left fault next here in
-    judges_refused (refused_from refusal m.width c.args.at c.args.count) c.from-residual.result fault (out.1 ∙ ap Err out.2) all
+    judges_refused (refused_from refusal m.width c.args.at c.args.count) c.from_residual.result fault (out.1 ∙ ap Err out.2) all
