@@ -45,7 +45,12 @@ LEMMAS = (
     "starts-phase",
     "taken-by",
 )
-CHOSEN = {name: name.replace("-", "_") + "_lem" for name in LEMMAS} | {"in-phase": "in_that_phase"}
+CHOSEN = {name: name.replace("-", "_") + "_lem" for name in LEMMAS} | {
+    "in-phase": "in_that_phase",
+    # The toolchain's script has turned these lemmas already.
+    "same_bytes": "same_bytes_lem",
+    "owes_nothing": "owes_nothing_lem",
+}
 
 
 def files(*ends):

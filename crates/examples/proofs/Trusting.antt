@@ -12,7 +12,7 @@ use Rattle.protocol.specs.Custodian.{Custodian, in_phase, seating_fault, seated,
 use Rattle.protocol.specs.History.{Call, Open, Post, SeatAt, WriteLetter, TakeLetter, Owe, DrawSheet, Recover, Made, State, with_custodian, unless_refused, after_call, after, DrewUp, Wrote, EachPosted, EachLetter, IsClose, Faithful}
 use Rattle.protocol.proofs.Counting.{clash, seat_parts, every_is, some_of, none_some, same_some, holds_true}
 use Rattle.protocol.proofs.Faults.{mapped_some}
-use Rattle.protocol.proofs.SheetBytes.{same_bytes}
+use Rattle.protocol.proofs.SheetBytes.{same_bytes_lem}
 
 -- The tests.
 
@@ -96,7 +96,7 @@ draws_up_lem m state k bytes (Owe j room) e =
     let p = and_parts _ _ e in
     let q = and_parts _ _ p.1 in
     let h = holds_true (owed_bytes m state.board (state.custodians k)) (λ drawn. same_bytes drawn bytes) q.1 in
-    (room, ap (λ (x : ℕ). Owe x room) (eqb-true j k p.0), none_of _ q.0, h.1 ∙ ap (λ (x : List ℕ). Some x) (same_bytes h.0 bytes h.2))
+    (room, ap (λ (x : ℕ). Owe x room) (eqb-true j k p.0), none_of _ q.0, h.1 ∙ ap (λ (x : List ℕ). Some x) (same_bytes_lem h.0 bytes h.2))
 draws_up_lem m state k bytes (DrawSheet j room) e = clash false e refl
 draws_up_lem m state k bytes (Recover scratch other) e = clash false e refl
 
@@ -120,7 +120,7 @@ has_written m state k bytes (WriteLetter j addressee room) e =
     let h = holds_true (state.custodians k)
     (λ c. not (is_some (writing_fault m state.board (Some c) addressee room)) && same_bytes bytes (write_letter m (letter_to m state.board c addressee))) p.1 in
     let q = and_parts _ _ h.2 in
-    (addressee, room, h.0, ap (λ (x : ℕ). WriteLetter x addressee room) (eqb-true j k p.0), h.1, none_of _ q.0, same_bytes _ _ q.1)
+    (addressee, room, h.0, ap (λ (x : ℕ). WriteLetter x addressee room) (eqb-true j k p.0), h.1, none_of _ q.0, same_bytes_lem _ _ q.1)
 has_written m state k bytes (TakeLetter j other) e = clash false e refl
 has_written m state k bytes (Owe j room) e = clash false e refl
 has_written m state k bytes (DrawSheet j room) e = clash false e refl
@@ -227,9 +227,9 @@ at_close : (m : Meaning) (made : Made) (k : ℕ) (earlier : List Call) (bytes : 
 at_close m made k earlier bytes a c =
     and_parts (quiet m (after m made earlier) k) (heard_all m (after m made earlier) k) (sym (cond-true _ _ _ (eq-eqb (kind_field bytes) 8 c)) ∙ a)
 
-owes_nothing : (m : Meaning) (made : Made) (k : ℕ) (earlier : List Call) (bytes : List ℕ) → allowed m made k earlier (Post bytes) ≡ true → IsClose bytes
+owes_nothing_lem : (m : Meaning) (made : Made) (k : ℕ) (earlier : List Call) (bytes : List ℕ) → allowed m made k earlier (Post bytes) ≡ true → IsClose bytes
     → (i : ℕ) → is_seat k i ≡ true → (c : Custodian) → (after m made earlier).custodians i ≡ Some c → owed m (after m made earlier).board c ≡ None
-owes_nothing m made k earlier bytes a close i s c e =
+owes_nothing_lem m made k earlier bytes a close i s c e =
     let p = seat_parts k i s in
     let q = every_is k (λ x. owes_nothing m (after m made earlier).board ((after m made earlier).custodians x)) (at_close m made k earlier bytes a close).0 i p.0 p.1 in
     none_of _ (ap (owes_nothing m (after m made earlier).board) (sym e) ∙ q)
@@ -262,6 +262,6 @@ faithful m made k calls a there = record {
   no_other = λ i s j c e q. sym (own_seats m made k calls a j c e) ∙ q;
   own_records = each_posted m made k _ (own_record m made k) calls a;
   own_letters = each_letter m made k _ (own_letter m made k) calls a;
-  nothing_owed = each_posted m made k _ (owes_nothing m made k) calls a;
+  nothing_owed = each_posted m made k _ (owes_nothing_lem m made k) calls a;
   letters_taken = each_posted m made k _ (all_heard m made k) calls a;
 }

@@ -18,7 +18,7 @@ use Rattle.protocol.proofs.Faults.{all_passed, unless_none}
 use Rattle.protocol.proofs.Phases.{finished_starts}
 use Rattle.protocol.proofs.Histories.{board_after, limits}
 use Rattle.protocol.proofs.Recovering.{Sound, sound, Logged, Twice, result}
-use Rattle.protocol.proofs.SheetBytes.{same_bytes, SheetReads, SheetSmall, shares_length, shares_below, sheets_none}
+use Rattle.protocol.proofs.SheetBytes.{same_bytes_lem, SheetReads, SheetSmall, shares_length, shares_below, sheets_none}
 use Rattle.protocol.proofs.Labels.{sheet_reads}
 
 module _ (read_back : SheetsReadBack) (m : Meaning) (laws : Lawful m) (made : Made) (calls : List Call) where
@@ -32,7 +32,7 @@ module _ (read_back : SheetsReadBack) (m : Meaning) (laws : Lawful m) (made : Ma
   small h l s S =
       let fits = laws.scalar_fits in
       record {
-        label = ap length (same_bytes s.label b.label S.label) ∙ l;
+        label = ap length (same_bytes_lem s.label b.label S.label) ∙ l;
         seat = omega (arith, (seat_parts b.n s.seat S.seat).1);
         many = omega (arith, shares_length m b s.seat (dealers m b) s.shares S.shares, few_dealers h);
         shares = All-weaker (Share m.q) (λ p. (p.0 < 256 ^ m.s) × (p.1 < 256 ^ m.s)) (λ p u. (omega (arith, u.0), omega (arith, u.1))) s.shares

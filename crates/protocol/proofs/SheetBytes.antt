@@ -18,12 +18,12 @@ use Rattle.protocol.proofs.SeatLists.{Apart}
 use Rattle.protocol.proofs.Faults.{all_passed, unless_none}
 use Rattle.protocol.proofs.Recovering.{passing_head, Sound}
 
-pub same_bytes : (l k : List ℕ) → same_bytes l k ≡ true → l ≡ k
+pub same_bytes_lem : (l k : List ℕ) → same_bytes l k ≡ true → l ≡ k
 unfolding same_bytes
-same_bytes [] [] e = refl
-same_bytes [] (y ∷ k) e = clash false e refl
-same_bytes (x ∷ l) [] e = clash false e refl
-same_bytes (x ∷ l) (y ∷ k) e = let p = and_parts (eqb x y) (same_bytes l k) e in ap₂ (λ (a : ℕ) (r : List ℕ). a ∷ r) (eqb-true _ _ p.0) (same_bytes l k p.1)
+same_bytes_lem [] [] e = refl
+same_bytes_lem [] (y ∷ k) e = clash false e refl
+same_bytes_lem (x ∷ l) [] e = clash false e refl
+same_bytes_lem (x ∷ l) (y ∷ k) e = let p = and_parts (eqb x y) (same_bytes l k) e in ap₂ (λ (a : ℕ) (r : List ℕ). a ∷ r) (eqb-true _ _ p.0) (same_bytes_lem l k p.1)
 
 -- Codes in bytes behind other bytes.
 

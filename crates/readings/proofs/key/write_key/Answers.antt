@@ -11,13 +11,13 @@ use Rattle.readings.specs.Outputs.{written_in}
 use Rattle.readings.proofs.Refusing.{refuses, keeps, answers, leaves, key_early, key_small, key_taken}
 use Rattle.readings.proofs.key.write_key.Goals as goal
 
-pub returns-in-default : goal.returns-in-default
-returns-in-default g c =
+pub returns-in_default : goal.returns-in_default
+returns-in_default g c =
     let m = g.G.Group.meaning in
     let b = board_of m (state_of c.args.ceremony.now) in
     let out = c.args.out.now in
     let fault = key_fault m b (length out) in
-    let e = key_early m b (length out) (λ p. c.in-default.not-Finished (c.phase.ensures ∙ p)) in
+    let e = key_early m b (length out) (λ p. c.in_default.not-Finished (c.phase.ensures ∙ p)) in
     record { answer = refuses fault m.w (OutOfPhase 0) e; output = keeps fault (written_in out (key_code m b)) out (OutOfPhase 0) e }
 
 pub returns-then-out-width : goal.returns-then-out-width

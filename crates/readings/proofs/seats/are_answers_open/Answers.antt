@@ -9,7 +9,7 @@ returns-in-Unopened g c =
     let h = answers_open g.G.Group.meaning (board_of g.G.Group.meaning (state_of c.args.ceremony.now)) c.phase.result c.phase.ensures in
     search rules
 
-pub returns-in-default : goal.returns-in-default
-returns-in-default g c =
+pub returns-in_default : goal.returns-in_default
+returns-in_default g c =
     let h = answers_open g.G.Group.meaning (board_of g.G.Group.meaning (state_of c.args.ceremony.now)) c.phase.result c.phase.ensures in
     search rules

@@ -26,7 +26,7 @@ returns-then-rows-n g c =
     let rows = c.args.rows.now in
     let fault = seat_list_fault m b (length rows) in
     let n : c.n-n.result ≡ b.n = c.n-n.ensures in
-    let e = list_small m b (length rows) (λ p. c.in-default.not-Unopened (c.phase.ensures ∙ p)) (omega (arith, c.if-rows-n.true)) in
+    let e = list_small m b (length rows) (λ p. c.in_default.not-Unopened (c.phase.ensures ∙ p)) (omega (arith, c.if-rows-n.true)) in
     record { answer = refuses fault tt SmallOutput e; rows = keeps fault (with_seats m b rows) rows SmallOutput e }
 
 pub loop-k-preserved : goal.loop-k-preserved
@@ -44,7 +44,7 @@ returns g c =
     let rows = c.args.rows.now in
     let fault = seat_list_fault m b (length rows) in
     let n : c.n-n.result ≡ b.n = c.n-n.ensures in
-    let e = list_taken m b (length rows) (λ p. c.in-default.not-Unopened (c.phase.ensures ∙ p)) (omega (arith, c.if-rows-n.false)) in
+    let e = list_taken m b (length rows) (λ p. c.in_default.not-Unopened (c.phase.ensures ∙ p)) (omega (arith, c.if-rows-n.false)) in
     let end : c.loop-k.k ≡ b.n = omega arith in
     record {
       answer = answers fault tt tt refl e;

@@ -8,15 +8,15 @@ use Rattle.replay.proofs.SoFar.{SoFar, Came, came, next, tested_by, taken_by, re
 use Rattle.replay.proofs.replay.replay.Goals as goal
 use Rattle.replay.proofs.replay.replay.Goals.{in-Ok, in-Err}
 
-pub returns-in-default : goal.returns-in-default
-returns-in-default g c =
+pub returns-in_default : goal.returns-in_default
+returns-in_default g c =
     let m = g.G.Group.meaning in
     let file = c.args.file.now in
     let at = c.loop-at.at in
     let first = state_of c.args.ceremony.now in
     let now = state_of c.loop-at.ceremony in
     let S = c.loop-at.invariant.1 in
-    let no : begins_whole (drop at file) ≡ false = sym (ap begins_whole (all_of_rest at file)) ∙ c.in-default.ensures in
+    let no : begins_whole (drop at file) ≡ false = sym (ap begins_whole (all_of_rest at file)) ∙ c.in_default.ensures in
     let none = frames_broken (drop at file) no in
     record {
       board = all_board m first now file at c.loop-at.taken c.loop-at.refused c.loop-at.equations S none;

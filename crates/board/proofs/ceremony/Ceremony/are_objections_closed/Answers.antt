@@ -9,7 +9,7 @@ returns-in-Revealing g c =
     let h = objections_closed g.G.Group.meaning (board_of g.G.Group.meaning (state_of c.args.self.now)) c.args.self.now.phase c.requires.kept.phase in
     search rules
 
-pub returns-in-default : goal.returns-in-default
-returns-in-default g c =
+pub returns-in_default : goal.returns-in_default
+returns-in_default g c =
     let h = objections_closed g.G.Group.meaning (board_of g.G.Group.meaning (state_of c.args.self.now)) c.args.self.now.phase c.requires.kept.phase in
     search rules

@@ -30,7 +30,7 @@ returns-in_err-kind g c =
     let bytes = c.args.bytes.now in
     let p = err_from_is_err_and c.from_residual.result c.from_residual.ensures.1 in
     let fault = c.in_err-kind.field-0.0 in
-    let opened : phase_number (phase_of m (board_of m S)) ≡ 0 → ⊥ = λ none. begun c.args.self.now.phase c.in-default.not-Unopened (ap phase_number c.requires.phase ∙ none) in
+    let opened : phase_number (phase_of m (board_of m S)) ≡ 0 → ⊥ = λ none. begun c.args.self.now.phase c.in_default.not-Unopened (ap phase_number c.requires.phase ∙ none) in
     let told = misread m (board_of m S) bytes fault opened (subst (λ (t : ℕ). Misread m t bytes fault) c.requires.t c.in_err-kind.ensures) in
     record {
       answer = p.1 ∙ ap (λ (f : CeremonyFault). Err f) p.2 ∙ ap (λ (o : Option CeremonyFault). answer_of o (equations_taken (kind_with (kind_field bytes)))) told;
@@ -39,85 +39,85 @@ returns-in_err-kind g c =
       lender = refl;
     }
 
-pub returns-in-default-2 : goal.returns-in-default-2
-returns-in-default-2 g c =
+pub returns-in_default-2 : goal.returns-in_default-2
+returns-in_default-2 g c =
     let m = g.G.Group.meaning in
     let S = state_of c.args.self.now in
     let away : is_home c.args.self.now.phase c.in_ok-kind.kind ≡ false = search rules in
     record {
-      answer = ap (λ (o : Option CeremonyFault). answer_of o (equations_taken (kind_with (kind_field c.args.bytes.now)))) (out_of_phase m S c.args.bytes.now c.in_ok-kind.kind c.requires c.in_ok-kind.ensures (begun c.args.self.now.phase c.in-default.not-Unopened) away);
+      answer = ap (λ (o : Option CeremonyFault). answer_of o (equations_taken (kind_with (kind_field c.args.bytes.now)))) (out_of_phase m S c.args.bytes.now c.in_ok-kind.kind c.requires c.in_ok-kind.ensures (begun c.args.self.now.phase c.in_default.not-Unopened) away);
       after = refl;
       kept = c.requires;
       lender = refl;
     }
 
-pub returns-in-default-2·2 : goal.returns-in-default-2·2
-returns-in-default-2·2 g c =
+pub returns-in_default-2-2 : goal.returns-in_default-2-2
+returns-in_default-2-2 g c =
     let m = g.G.Group.meaning in
     let S = state_of c.args.self.now in
     let away : is_home c.args.self.now.phase c.in_ok-kind.kind ≡ false = search rules in
     record {
-      answer = ap (λ (o : Option CeremonyFault). answer_of o (equations_taken (kind_with (kind_field c.args.bytes.now)))) (out_of_phase m S c.args.bytes.now c.in_ok-kind.kind c.requires c.in_ok-kind.ensures (begun c.args.self.now.phase c.in-default.not-Unopened) away);
+      answer = ap (λ (o : Option CeremonyFault). answer_of o (equations_taken (kind_with (kind_field c.args.bytes.now)))) (out_of_phase m S c.args.bytes.now c.in_ok-kind.kind c.requires c.in_ok-kind.ensures (begun c.args.self.now.phase c.in_default.not-Unopened) away);
       after = refl;
       kept = c.requires;
       lender = refl;
     }
 
-pub returns-in-default-2·3 : goal.returns-in-default-2·3
-returns-in-default-2·3 g c =
+pub returns-in_default-2-3 : goal.returns-in_default-2-3
+returns-in_default-2-3 g c =
     let m = g.G.Group.meaning in
     let S = state_of c.args.self.now in
     let away : is_home c.args.self.now.phase c.in_ok-kind.kind ≡ false = search rules in
     record {
-      answer = ap (λ (o : Option CeremonyFault). answer_of o (equations_taken (kind_with (kind_field c.args.bytes.now)))) (out_of_phase m S c.args.bytes.now c.in_ok-kind.kind c.requires c.in_ok-kind.ensures (begun c.args.self.now.phase c.in-default.not-Unopened) away);
+      answer = ap (λ (o : Option CeremonyFault). answer_of o (equations_taken (kind_with (kind_field c.args.bytes.now)))) (out_of_phase m S c.args.bytes.now c.in_ok-kind.kind c.requires c.in_ok-kind.ensures (begun c.args.self.now.phase c.in_default.not-Unopened) away);
       after = refl;
       kept = c.requires;
       lender = refl;
     }
 
-pub returns-in-default-2·4 : goal.returns-in-default-2·4
-returns-in-default-2·4 g c =
+pub returns-in_default-2-4 : goal.returns-in_default-2-4
+returns-in_default-2-4 g c =
     let m = g.G.Group.meaning in
     let S = state_of c.args.self.now in
     let away : is_home c.args.self.now.phase c.in_ok-kind.kind ≡ false = search rules in
     record {
-      answer = ap (λ (o : Option CeremonyFault). answer_of o (equations_taken (kind_with (kind_field c.args.bytes.now)))) (out_of_phase m S c.args.bytes.now c.in_ok-kind.kind c.requires c.in_ok-kind.ensures (begun c.args.self.now.phase c.in-default.not-Unopened) away);
+      answer = ap (λ (o : Option CeremonyFault). answer_of o (equations_taken (kind_with (kind_field c.args.bytes.now)))) (out_of_phase m S c.args.bytes.now c.in_ok-kind.kind c.requires c.in_ok-kind.ensures (begun c.args.self.now.phase c.in_default.not-Unopened) away);
       after = refl;
       kept = c.requires;
       lender = refl;
     }
 
-pub returns-in-default-2·5 : goal.returns-in-default-2·5
-returns-in-default-2·5 g c =
+pub returns-in_default-2-5 : goal.returns-in_default-2-5
+returns-in_default-2-5 g c =
     let m = g.G.Group.meaning in
     let S = state_of c.args.self.now in
     let away : is_home c.args.self.now.phase c.in_ok-kind.kind ≡ false = search rules in
     record {
-      answer = ap (λ (o : Option CeremonyFault). answer_of o (equations_taken (kind_with (kind_field c.args.bytes.now)))) (out_of_phase m S c.args.bytes.now c.in_ok-kind.kind c.requires c.in_ok-kind.ensures (begun c.args.self.now.phase c.in-default.not-Unopened) away);
+      answer = ap (λ (o : Option CeremonyFault). answer_of o (equations_taken (kind_with (kind_field c.args.bytes.now)))) (out_of_phase m S c.args.bytes.now c.in_ok-kind.kind c.requires c.in_ok-kind.ensures (begun c.args.self.now.phase c.in_default.not-Unopened) away);
       after = refl;
       kept = c.requires;
       lender = refl;
     }
 
-pub returns-in-default-2·6 : goal.returns-in-default-2·6
-returns-in-default-2·6 g c =
+pub returns-in_default-2-6 : goal.returns-in_default-2-6
+returns-in_default-2-6 g c =
     let m = g.G.Group.meaning in
     let S = state_of c.args.self.now in
     let away : is_home c.args.self.now.phase c.in_ok-kind.kind ≡ false = search rules in
     record {
-      answer = ap (λ (o : Option CeremonyFault). answer_of o (equations_taken (kind_with (kind_field c.args.bytes.now)))) (out_of_phase m S c.args.bytes.now c.in_ok-kind.kind c.requires c.in_ok-kind.ensures (begun c.args.self.now.phase c.in-default.not-Unopened) away);
+      answer = ap (λ (o : Option CeremonyFault). answer_of o (equations_taken (kind_with (kind_field c.args.bytes.now)))) (out_of_phase m S c.args.bytes.now c.in_ok-kind.kind c.requires c.in_ok-kind.ensures (begun c.args.self.now.phase c.in_default.not-Unopened) away);
       after = refl;
       kept = c.requires;
       lender = refl;
     }
 
-pub returns-in-default-2·7 : goal.returns-in-default-2·7
-returns-in-default-2·7 g c =
+pub returns-in_default-2-7 : goal.returns-in_default-2-7
+returns-in_default-2-7 g c =
     let m = g.G.Group.meaning in
     let S = state_of c.args.self.now in
     let away : is_home c.args.self.now.phase c.in_ok-kind.kind ≡ false = search rules in
     record {
-      answer = ap (λ (o : Option CeremonyFault). answer_of o (equations_taken (kind_with (kind_field c.args.bytes.now)))) (out_of_phase m S c.args.bytes.now c.in_ok-kind.kind c.requires c.in_ok-kind.ensures (begun c.args.self.now.phase c.in-default.not-Unopened) away);
+      answer = ap (λ (o : Option CeremonyFault). answer_of o (equations_taken (kind_with (kind_field c.args.bytes.now)))) (out_of_phase m S c.args.bytes.now c.in_ok-kind.kind c.requires c.in_ok-kind.ensures (begun c.args.self.now.phase c.in_default.not-Unopened) away);
       after = refl;
       kept = c.requires;
       lender = refl;

@@ -7,9 +7,9 @@ use Rattle.board.specs.State.{state_of}
 use Rattle.board.proofs.StoredCodes.{ElementsAt, elements_at, used_narrow, filled_length}
 use Rattle.board.proofs.ceremony.Ceremony.value_in.Goals as goal
 
-pub returns-in-default : goal.returns-in-default
-returns-in-default g c =
-    not_stored g.G.Group.meaning (state_of c.args.self.now) c.args.kind c.args.dealer 0 c.requires.kept c.requires.kind.0 (sym c.find.ensures ∙ c.in-default.is)
+pub returns-in_default : goal.returns-in_default
+returns-in_default g c =
+    not_stored g.G.Group.meaning (state_of c.args.self.now) c.args.kind c.args.dealer 0 c.requires.kept c.requires.kind.0 (sym c.find.ensures ∙ c.in_default.is)
 
 pub overflow_add-place : goal.overflow_add-place
 overflow_add-place g c =

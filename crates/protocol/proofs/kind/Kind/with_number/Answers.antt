@@ -42,6 +42,6 @@ pub returns-in-17 : goal.returns-in-17
 unfolding kind_with
 returns-in-17 c = search rules
 
-pub returns-in-default : goal.returns-in-default
+pub returns-in_default : goal.returns-in_default
 unfolding kind_with
-returns-in-default c = search rules
+returns-in_default c = search rules
