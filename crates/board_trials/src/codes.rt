@@ -71,6 +71,6 @@ const POLYNOMIALS: &[Step] = &[
 
 #[test]
 fn codes_refused(rt: HostRuntime) -> Result<(), Fail> {
-    play_in::<Residues>(&rt, RESIDUES, &[]).note("group 1")?;
-    play_in::<BinaryPolynomials>(&rt, POLYNOMIALS, &[]).note("group 2")
+    play_in::<Residues>(&rt, RESIDUES, &[])?;
+    play_in::<BinaryPolynomials>(&rt, POLYNOMIALS, &[])
 }

@@ -108,12 +108,12 @@ const NO_RECORDS: &[Step] = &[
 
 #[test]
 fn openings_refused(rt: HostRuntime) -> Result<(), Fail> {
-    play_in::<Residues>(&rt, UNOPENED, OPENINGS).note("group 1")?;
-    play_in::<BinaryPolynomials>(&rt, UNOPENED, OPENINGS).note("group 2")
+    play_in::<Residues>(&rt, UNOPENED, OPENINGS)?;
+    play_in::<BinaryPolynomials>(&rt, UNOPENED, OPENINGS)
 }
 
 #[test]
 fn frames_refused(rt: HostRuntime) -> Result<(), Fail> {
-    play_in::<Residues>(&rt, NO_RECORDS, &[]).note("group 1")?;
-    play_in::<BinaryPolynomials>(&rt, NO_RECORDS, &[]).note("group 2")
+    play_in::<Residues>(&rt, NO_RECORDS, &[])?;
+    play_in::<BinaryPolynomials>(&rt, NO_RECORDS, &[])
 }

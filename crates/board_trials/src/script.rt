@@ -72,8 +72,8 @@ pub(super) fn check_refused<T: Drop>(
 
 // Hands a record to the opening call or to the posting call.
 fn hand<G: Group>(ceremony: &mut Ceremony<'_, G>, record: Record) -> Result<u8, CeremonyFault>
-    requires { Kept meaning (state_of ceremony.old) }
-    ensures kept { Kept meaning (state_of ceremony.new) }
+    requires { Kept G.meaning (state_of ceremony.old) }
+    ensures kept { Kept G.meaning (state_of ceremony.new) }
     ensures lender { ceremony.new.area.ghost_name ≡ ceremony.old.area.ghost_name }
 {
     let mut bytes = [0; 32];
@@ -99,7 +99,7 @@ fn check_seats<G: Group>(
     ceremony: &Ceremony<'_, G>,
     seats: &[(SeatState, u8)],
 ) -> Result<(), Fail>
-    requires { Kept meaning (state_of ceremony.now) }
+    requires { Kept G.meaning (state_of ceremony.now) }
 {
     let mut rows = [UNWRITTEN; 8];
     seat_list(ceremony, &mut rows)?;
@@ -117,7 +117,7 @@ fn check_no_seats<G: Group>(
     rows: &mut [SeatRow],
     number: u8,
 ) -> Result<(), Fail>
-    requires { Kept meaning (state_of ceremony.now) }
+    requires { Kept G.meaning (state_of ceremony.now) }
 {
     check_refused(rt, seat_list(ceremony, rows), number, 0, 0)?;
     for row in rows {
@@ -132,7 +132,7 @@ fn check_code<G: Group>(
     ceremony: &Ceremony<'_, G>,
     code: [u8; 4],
 ) -> Result<(), Fail>
-    requires { Kept meaning (state_of ceremony.now) }
+    requires { Kept G.meaning (state_of ceremony.now) }
 {
     let mut out = [0xFF; 4];
     check_refused(rt, write_key(ceremony, &mut out[0..1]), 14, 0, 0)?;
@@ -143,7 +143,7 @@ fn check_code<G: Group>(
 }
 
 fn check_key<G: Group>(rt: &impl Abort, ceremony: &Ceremony<'_, G>, log: u32) -> Result<(), Fail>
-    requires { Kept meaning (state_of ceremony.now) }
+    requires { Kept G.meaning (state_of ceremony.now) }
 {
     let mut code = [0xFF; 4];
     write_element::<G>(power_of::<G>(G::g(), G::reduced(log)), &mut code, 0);
@@ -152,7 +152,7 @@ fn check_key<G: Group>(rt: &impl Abort, ceremony: &Ceremony<'_, G>, log: u32) ->
 
 // Refused, and the output stays.
 fn check_no_key<G: Group>(rt: &impl Abort, ceremony: &Ceremony<'_, G>) -> Result<(), Fail>
-    requires { Kept meaning (state_of ceremony.now) }
+    requires { Kept G.meaning (state_of ceremony.now) }
 {
     let mut out = [0xFF; 4];
     check_refused(rt, write_key(ceremony, &mut out), 4, 0, 0)?;
@@ -166,7 +166,7 @@ fn check_share<G: Group>(
     dealer: u8,
     share: (u32, u32),
 ) -> Result<(), Fail>
-    requires { Kept meaning (state_of ceremony.now) }
+    requires { Kept G.meaning (state_of ceremony.now) }
 {
     let revealed = revealed_share(ceremony, dealer);
     assert_eq!(rt; G::scalar_number(revealed.left.value), share.0);
@@ -179,8 +179,8 @@ fn take_step<G: Group>(
     ceremony: &mut Ceremony<'_, G>,
     step: Step,
 ) -> Result<(), Fail>
-    requires { Kept meaning (state_of ceremony.old) }
-    ensures kept { Kept meaning (state_of ceremony.new) }
+    requires { Kept G.meaning (state_of ceremony.old) }
+    ensures kept { Kept G.meaning (state_of ceremony.new) }
     ensures lender { ceremony.new.area.ghost_name ≡ ceremony.old.area.ghost_name }
 {
     let _of: PhantomData<G> = PhantomData;
@@ -212,14 +212,14 @@ pub(super) fn play<G: Group>(
     ceremony: &mut Ceremony<'_, G>,
     script: &[Step],
 ) -> Result<(), Fail>
-    requires { Kept meaning (state_of ceremony.old) }
-    ensures kept { Kept meaning (state_of ceremony.new) }
+    requires { Kept G.meaning (state_of ceremony.old) }
+    ensures kept { Kept G.meaning (state_of ceremony.new) }
     ensures lender { ceremony.new.area.ghost_name ≡ ceremony.old.area.ghost_name }
 {
     let _of: PhantomData<G> = PhantomData;
     let mut count = 0u32;
     for step in script {
-        take_step(rt, ceremony, *step).note(count)?;
+        take_step(rt, ceremony, *step)?;
         count = count.wrapping_add(1);
     }
     Ok(())
@@ -235,7 +235,7 @@ pub(super) fn play_over<G: Group>(
     let mut ceremony = Ceremony::<G>::new(area);
     let mut played = play(rt, &mut ceremony, first);
     if let Ok(()) = played {
-        played = play(rt, &mut ceremony, rest).note("rest");
+        played = play(rt, &mut ceremony, rest);
     }
     ceremony.release();
     played

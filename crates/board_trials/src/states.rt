@@ -116,15 +116,15 @@ const NOT_VOID: &[Step] = &[
 
 #[test]
 fn dealers_judged(rt: HostRuntime) -> Result<(), Fail> {
-    play_in::<Residues>(&rt, JUDGED, &[]).note("group 1")?;
-    play_in::<BinaryPolynomials>(&rt, JUDGED, &[]).note("group 2")
+    play_in::<Residues>(&rt, JUDGED, &[])?;
+    play_in::<BinaryPolynomials>(&rt, JUDGED, &[])
 }
 
 #[test]
 fn void_ceremony(rt: HostRuntime) -> Result<(), Fail> {
-    play_in::<Residues>(&rt, VOID, &[]).note("group 1")?;
-    play_in::<BinaryPolynomials>(&rt, VOID, &[]).note("group 2")?;
-    play_in::<Residues>(&rt, NOT_VOID, &[]).note("not void")
+    play_in::<Residues>(&rt, VOID, &[])?;
+    play_in::<BinaryPolynomials>(&rt, VOID, &[])?;
+    play_in::<Residues>(&rt, NOT_VOID, &[])
 }
 
 // An output with less room than the word stays as it was.

@@ -165,8 +165,8 @@ fn check_same<G: Group>(
     first: &Ceremony<'_, G>,
     second: &Ceremony<'_, G>,
 ) -> Result<(), Fail>
-    requires first { Kept meaning (state_of first.now) }
-    requires second { Kept meaning (state_of second.now) }
+    requires first { Kept G.meaning (state_of first.now) }
+    requires second { Kept G.meaning (state_of second.now) }
 {
     assert_eq!(rt; first.n(), second.n());
     assert_eq!(rt; first.t(), second.t());
@@ -191,10 +191,10 @@ fn post_both<G: Group>(
     bytes: &[u8],
     seen: &mut Seen,
 ) -> Result<(), Fail>
-    requires first { Kept meaning (state_of first.old) }
-    requires second { Kept meaning (state_of second.old) }
-    ensures first { (Kept meaning (state_of first.new)) × (first.new.area.ghost_name ≡ first.old.area.ghost_name) }
-    ensures second { (Kept meaning (state_of second.new)) × (second.new.area.ghost_name ≡ second.old.area.ghost_name) }
+    requires first { Kept G.meaning (state_of first.old) }
+    requires second { Kept G.meaning (state_of second.old) }
+    ensures first { (Kept G.meaning (state_of first.new)) × (first.new.area.ghost_name ≡ first.old.area.ghost_name) }
+    ensures second { (Kept G.meaning (state_of second.new)) × (second.new.area.ghost_name ≡ second.old.area.ghost_name) }
 {
     let _of: PhantomData<G> = PhantomData;
     count_one(&mut seen.phases, first.phase().number());
@@ -219,10 +219,10 @@ fn post_turns<G: Group>(
     seed: u32,
     seen: &mut Seen,
 ) -> Result<(), Fail>
-    requires first { Kept meaning (state_of first.old) }
-    requires second { Kept meaning (state_of second.old) }
-    ensures first { (Kept meaning (state_of first.new)) × (first.new.area.ghost_name ≡ first.old.area.ghost_name) }
-    ensures second { (Kept meaning (state_of second.new)) × (second.new.area.ghost_name ≡ second.old.area.ghost_name) }
+    requires first { Kept G.meaning (state_of first.old) }
+    requires second { Kept G.meaning (state_of second.old) }
+    ensures first { (Kept G.meaning (state_of first.new)) × (first.new.area.ghost_name ≡ first.old.area.ghost_name) }
+    ensures second { (Kept G.meaning (state_of second.new)) × (second.new.area.ghost_name ≡ second.old.area.ghost_name) }
 {
     let _of: PhantomData<G> = PhantomData;
     play(rt, first, OPENED)?;
@@ -231,8 +231,8 @@ fn post_turns<G: Group>(
     for turn in 0..96u32 {
         let mut bytes = [0; 32];
         let size = write_turn::<G>(turn, random, &mut bytes);
-        post_both(rt, first, second, &bytes[0..size], seen).note(turn)?;
-        check_same(rt, first, second).note(turn)?;
+        post_both(rt, first, second, &bytes[0..size], seen)?;
+        check_same(rt, first, second)?;
         random = next_number(random);
     }
     Ok(())
@@ -258,7 +258,7 @@ fn check_seeds<G: Group>(rt: &impl Abort) -> Result<(), Fail> {
         phases: [0; 16],
     };
     for seed in 0..200u32 {
-        check_twins::<G>(rt, seed.wrapping_mul(2654435761), &mut seen).note(seed)?;
+        check_twins::<G>(rt, seed.wrapping_mul(2654435761), &mut seen)?;
     }
     for number in 0..12usize {
         assert!(rt; seen.refusals[number] > 0, "{}", number);

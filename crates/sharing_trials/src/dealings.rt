@@ -75,7 +75,7 @@ fn check_dealing<G: Group>(rt: &impl Abort, seat: u8, t: u8) -> Result<(), Fail>
         return Err(Fail::new("no record"));
     }
     for j in 1..33u8 {
-        check_share::<G>(rt, t, &coefficients[0..given], &record[5..size], j).note(j)?;
+        check_share::<G>(rt, t, &coefficients[0..given], &record[5..size], j)?;
     }
     Ok(())
 }
@@ -83,7 +83,7 @@ fn check_dealing<G: Group>(rt: &impl Abort, seat: u8, t: u8) -> Result<(), Fail>
 #[test]
 fn residue_dealings(rt: HostRuntime) -> Result<(), Fail> {
     for t in 0..16u8 {
-        check_dealing::<Residues>(&rt, t + 1, t).note(t)?;
+        check_dealing::<Residues>(&rt, t + 1, t)?;
     }
     Ok(())
 }
@@ -91,7 +91,7 @@ fn residue_dealings(rt: HostRuntime) -> Result<(), Fail> {
 #[test]
 fn polynomial_dealings(rt: HostRuntime) -> Result<(), Fail> {
     for t in 0..16u8 {
-        check_dealing::<BinaryPolynomials>(&rt, 32 - t, t).note(t)?;
+        check_dealing::<BinaryPolynomials>(&rt, 32 - t, t)?;
     }
     Ok(())
 }

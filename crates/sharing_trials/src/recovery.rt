@@ -87,17 +87,17 @@ fn check_recovery<G: Group, L: Linear<G>>(
 fn check_seats<G: Group>(rt: &impl Abort, start: u32, seats: &[u8]) -> Result<(), Fail> {
     let mut scalars = [0; 128];
     fill_scalars::<G>(start, &mut scalars);
-    check_recovery::<G, Scalar<G, G::Scalar>>(rt, &scalars, seats).note("scalars")?;
-    check_recovery::<G, Share<G>>(rt, &scalars, seats).note("pairs")?;
+    check_recovery::<G, Scalar<G, G::Scalar>>(rt, &scalars, seats)?;
+    check_recovery::<G, Share<G>>(rt, &scalars, seats)?;
     let mut elements = [0; 128];
     fill_elements::<G>(start, &mut elements);
-    check_recovery::<G, Element<G, G::Element>>(rt, &elements, seats).note("elements")
+    check_recovery::<G, Element<G, G::Element>>(rt, &elements, seats)
 }
 
 fn check_thresholds<G: Group>(rt: &impl Abort, start: u32, step: u32) -> Result<(), Fail> {
     let seats = pick_seats(start, step);
     for t in 0..16usize {
-        check_seats::<G>(rt, start.wrapping_add(t as u32), &seats[0..t + 1]).note(t)?;
+        check_seats::<G>(rt, start.wrapping_add(t as u32), &seats[0..t + 1])?;
     }
     Ok(())
 }
@@ -105,7 +105,7 @@ fn check_thresholds<G: Group>(rt: &impl Abort, start: u32, step: u32) -> Result<
 #[test]
 fn residues_recovered(rt: HostRuntime) -> Result<(), Fail> {
     for start in 0..8u32 {
-        check_thresholds::<Residues>(&rt, start * 5, start * 2 + 1).note(start)?;
+        check_thresholds::<Residues>(&rt, start * 5, start * 2 + 1)?;
     }
     Ok(())
 }
@@ -113,7 +113,7 @@ fn residues_recovered(rt: HostRuntime) -> Result<(), Fail> {
 #[test]
 fn polynomials_recovered(rt: HostRuntime) -> Result<(), Fail> {
     for start in 0..8u32 {
-        check_thresholds::<BinaryPolynomials>(&rt, start * 5, start * 2 + 1).note(start)?;
+        check_thresholds::<BinaryPolynomials>(&rt, start * 5, start * 2 + 1)?;
     }
     Ok(())
 }

@@ -77,7 +77,7 @@ fn check_places<G: Group, L: Linear<G>>(
 {
     let mut place = 0usize;
     for _k in 0..16 {
-        check_place::<G, L>(rt, good, place, wrong, reason).note(place)?;
+        check_place::<G, L>(rt, good, place, wrong, reason)?;
         place = place.saturating_add(L::code_width());
     }
     Ok(())

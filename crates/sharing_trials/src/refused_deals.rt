@@ -90,7 +90,7 @@ fn check_codes<G: Group>(
     let mut place = 0usize;
     for _k in 0..32 {
         if place < given {
-            check_code::<G>(rt, q, t, good, given, place).note(place)?;
+            check_code::<G>(rt, q, t, good, given, place)?;
         }
         place = place.saturating_add(G::scalar_width());
     }
@@ -113,10 +113,10 @@ fn check_lengths<G: Group>(
     assert_eq!(rt; fault.number(), 3);
     assert_eq!(rt; fault.place(), 0);
     assert_eq!(rt; fault.reason(), 0);
-    check_refused::<G>(rt, t, &coefficients[0..given - 1], 80, fault).note("short")?;
-    check_refused::<G>(rt, t, &coefficients[0..given + 1], 80, fault).note("long")?;
+    check_refused::<G>(rt, t, &coefficients[0..given - 1], 80, fault)?;
+    check_refused::<G>(rt, t, &coefficients[0..given + 1], 80, fault)?;
     write_code(&mut coefficients, 0, G::scalar_width(), q);
-    check_refused::<G>(rt, t, &coefficients[0..given - 1], 0, fault).note("short and wrong")
+    check_refused::<G>(rt, t, &coefficients[0..given - 1], 0, fault)
 }
 
 // One byte of room too few is refused, and exactly as many as are written are enough.
@@ -180,7 +180,7 @@ fn check_refusals<G: Group>(rt: &impl Abort, q: u32, t: u8) -> Result<(), Fail>
 #[test]
 fn residue_refusals(rt: HostRuntime) -> Result<(), Fail> {
     for t in 0..16u8 {
-        check_refusals::<Residues>(&rt, 1019, t).note(t)?;
+        check_refusals::<Residues>(&rt, 1019, t)?;
     }
     Ok(())
 }
@@ -188,7 +188,7 @@ fn residue_refusals(rt: HostRuntime) -> Result<(), Fail> {
 #[test]
 fn polynomial_refusals(rt: HostRuntime) -> Result<(), Fail> {
     for t in 0..16u8 {
-        check_refusals::<BinaryPolynomials>(&rt, 131071, t).note(t)?;
+        check_refusals::<BinaryPolynomials>(&rt, 131071, t)?;
     }
     Ok(())
 }

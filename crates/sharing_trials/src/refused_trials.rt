@@ -30,10 +30,10 @@ fn check_lengths<G: Group>(
     let s = 2 * G::scalar_width();
     let fault = DealingFault::Length;
     assert!(rt; test_share::<G>(3, &commitments[0..w], &share[0..s], 32).is_ok());
-    check_refused::<G>(rt, &commitments[0..w - 1], &share[0..s], fault).note("few commitments")?;
-    check_refused::<G>(rt, &commitments[0..w + 1], &share[0..s], fault).note("many commitments")?;
-    check_refused::<G>(rt, &commitments[0..w], &share[0..s - 1], fault).note("a short share")?;
-    check_refused::<G>(rt, &commitments[0..w], &share[0..s + 1], fault).note("a long share")
+    check_refused::<G>(rt, &commitments[0..w - 1], &share[0..s], fault)?;
+    check_refused::<G>(rt, &commitments[0..w + 1], &share[0..s], fault)?;
+    check_refused::<G>(rt, &commitments[0..w], &share[0..s - 1], fault)?;
+    check_refused::<G>(rt, &commitments[0..w], &share[0..s + 1], fault)
 }
 
 fn check_codes<G: Group>(
@@ -48,11 +48,11 @@ fn check_codes<G: Group>(
     let left = DealingFault::Code(GroupFault::NoCandidate { place: 0 });
     let last = DealingFault::Code(GroupFault::NoCandidate { place: 3 * w });
     write_code(share, s, s, q);
-    check_refused::<G>(rt, &commitments[0..4 * w], &share[0..2 * s], right).note("s'")?;
+    check_refused::<G>(rt, &commitments[0..4 * w], &share[0..2 * s], right)?;
     write_code(share, 0, s, q);
-    check_refused::<G>(rt, &commitments[0..4 * w], &share[0..2 * s], left).note("s")?;
+    check_refused::<G>(rt, &commitments[0..4 * w], &share[0..2 * s], left)?;
     write_code(commitments, 3 * w, w, 0);
-    check_refused::<G>(rt, &commitments[0..4 * w], &share[0..2 * s], last).note("C_3")?;
+    check_refused::<G>(rt, &commitments[0..4 * w], &share[0..2 * s], last)?;
     check_refused::<G>(
         rt,
         &commitments[0..4 * w],

@@ -71,7 +71,7 @@ fn check_values<G: Group>(rt: &impl Abort, q: u32, count: usize) -> Result<(), F
 #[test]
 fn residue_values(rt: HostRuntime) -> Result<(), Fail> {
     for t in 0..16usize {
-        check_values::<Residues>(&rt, 1019, t + 1).note(t)?;
+        check_values::<Residues>(&rt, 1019, t + 1)?;
     }
     Ok(())
 }
@@ -79,7 +79,7 @@ fn residue_values(rt: HostRuntime) -> Result<(), Fail> {
 #[test]
 fn polynomial_values(rt: HostRuntime) -> Result<(), Fail> {
     for t in 0..16usize {
-        check_values::<BinaryPolynomials>(&rt, 131071, t + 1).note(t)?;
+        check_values::<BinaryPolynomials>(&rt, 131071, t + 1)?;
     }
     Ok(())
 }

@@ -52,7 +52,7 @@ fn residue_codes(rt: HostRuntime) -> Result<(), Fail> {
     let mut members = 0u32;
     for n in 0..65536u32 {
         let expected = residue_expected(n, &squares);
-        check_answer(&rt, element_read::<Residues>(&coded(n, 2)), expected).note(n)?;
+        check_answer(&rt, element_read::<Residues>(&coded(n, 2)), expected)?;
         if expected == Ok(n) {
             members = members.saturating_add(1);
         }
@@ -65,7 +65,7 @@ fn residue_codes(rt: HostRuntime) -> Result<(), Fail> {
 fn residue_scalar_codes(rt: HostRuntime) -> Result<(), Fail> {
     for n in 0..65536u32 {
         let expected = if n < 1019 { Ok(n) } else { Err(NO_CANDIDATE) };
-        check_answer(&rt, scalar_read::<Residues>(&coded(n, 2)), expected).note(n)?;
+        check_answer(&rt, scalar_read::<Residues>(&coded(n, 2)), expected)?;
     }
     Ok(())
 }
@@ -85,8 +85,7 @@ fn polynomial_codes_at_the_edges(rt: HostRuntime) -> Result<(), Fail> {
             &rt,
             element_read::<BinaryPolynomials>(&coded(n, 3)),
             polynomial_expected(n),
-        )
-        .note(n)?;
+        )?;
     }
     Ok(())
 }
@@ -95,7 +94,7 @@ fn polynomial_codes_at_the_edges(rt: HostRuntime) -> Result<(), Fail> {
 #[test]
 fn polynomial_codes(rt: HostRuntime) -> Result<(), Fail> {
     for n in 1..131072u32 {
-        check_answer(&rt, element_read::<BinaryPolynomials>(&coded(n, 3)), Ok(n)).note(n)?;
+        check_answer(&rt, element_read::<BinaryPolynomials>(&coded(n, 3)), Ok(n))?;
     }
     Ok(())
 }
@@ -108,8 +107,7 @@ fn polynomial_scalar_codes(rt: HostRuntime) -> Result<(), Fail> {
             &rt,
             scalar_read::<BinaryPolynomials>(&coded(n, 3)),
             expected,
-        )
-        .note(n)?;
+        )?;
     }
     Ok(())
 }

@@ -1,7 +1,7 @@
 use Rattle.std.proofs.Common.{◌≡◌}
 use Rattle.board_index.specs.Kept.{Kept}
 use Rattle.board.specs.State.{state_of}
-use Rattle.ceremony.proofs.showing.give_all.Given as goal
+use Rattle.whole_board.proofs.showing.give_all.Given as goal
 
 abbrev pub invariant-loop-bytes : goal.invariant-loop-bytes
 invariant-loop-bytes g l =
