@@ -160,6 +160,10 @@ fn check_no_key<G: Group>(rt: &impl Abort, ceremony: &Ceremony<'_, G>) -> Result
     Ok(())
 }
 
+fn numbers_of<G: Group>(share: Share<G>) -> (u32, u32) {
+    (G::scalar_number(share.left.value), G::scalar_number(share.right.value))
+}
+
 fn check_share<G: Group>(
     rt: &impl Abort,
     ceremony: &Ceremony<'_, G>,
@@ -168,9 +172,9 @@ fn check_share<G: Group>(
 ) -> Result<(), Fail>
     requires { Kept G.meaning (state_of ceremony.now) }
 {
-    let revealed = revealed_share(ceremony, dealer);
-    assert_eq!(rt; G::scalar_number(revealed.left.value), share.0);
-    assert_eq!(rt; G::scalar_number(revealed.right.value), share.1);
+    let revealed = numbers_of::<G>(revealed_share(ceremony, dealer));
+    assert_eq!(rt; revealed.0, share.0);
+    assert_eq!(rt; revealed.1, share.1);
     Ok(())
 }
 
@@ -217,10 +221,8 @@ pub(super) fn play<G: Group>(
     ensures lender { ceremony.new.area.ghost_name ≡ ceremony.old.area.ghost_name }
 {
     let _of: PhantomData<G> = PhantomData;
-    let mut count = 0u32;
     for step in script {
         take_step(rt, ceremony, *step)?;
-        count = count.wrapping_add(1);
     }
     Ok(())
 }

@@ -32,7 +32,7 @@ fn write_values<G: Group, L: Linear<G>>(
     seats: &[u8],
     values: &mut [u8],
 ) -> Result<(), Fail>
-    requires { width ≤ 8 }
+    requires { L.width ≤ 8 }
 {
     if seats.len() > 16 {
         return Err(Fail::new("more than 16 seats"));
@@ -55,7 +55,7 @@ fn write_recovered<G: Group, L: Linear<G>>(
     seats: &[u8],
     recovered: &mut [u8; 8],
 ) -> Result<(), Fail>
-    requires { width ≤ 8 }
+    requires { L.width ≤ 8 }
 {
     if seats.len() > 16 || !are_different_seats(seats) {
         return Err(Fail::new("these are not up to 16 different seats"));
@@ -70,7 +70,7 @@ fn check_recovery<G: Group, L: Linear<G>>(
     codes: &[u8; 128],
     seats: &[u8],
 ) -> Result<(), Fail>
-    requires { width ≤ 8 }
+    requires { L.width ≤ 8 }
 {
     let mut values = [0; 128];
     write_values::<G, L>(codes, seats, &mut values)?;

@@ -22,7 +22,7 @@ fn check_refused<G: Group, L: Linear<G>>(
     codes: &[u8; 64],
     fault: GroupFault,
 ) -> Result<(), Fail>
-    requires { width ≤ 4 }
+    requires { L.width ≤ 4 }
 {
     assert_eq!(rt; judge_codes::<G, L>(codes, 0, 16), Err(fault));
     if let Err(told) = evaluate::<G, L>(codes, 0, 16, 3) {
@@ -50,7 +50,7 @@ fn check_place<G: Group, L: Linear<G>>(
     wrong: u32,
     reason: u8,
 ) -> Result<(), Fail>
-    requires { width ≤ 4 }
+    requires { L.width ≤ 4 }
 {
     if place > 60 {
         return Err(Fail::new("no room"));
@@ -73,7 +73,7 @@ fn check_places<G: Group, L: Linear<G>>(
     wrong: u32,
     reason: u8,
 ) -> Result<(), Fail>
-    requires { width ≤ 4 }
+    requires { L.width ≤ 4 }
 {
     let mut place = 0usize;
     for _k in 0..16 {
