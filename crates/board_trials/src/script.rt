@@ -15,6 +15,7 @@ use protocol::state::SeatState;
 use readings::key::write_key;
 use readings::reveals::revealed_share;
 use readings::seats::seat_list;
+use sharing::commitment::Share;
 use std::marker::PhantomData;
 use std::process::Abort;
 use std::test::Fail;
@@ -161,7 +162,10 @@ fn check_no_key<G: Group>(rt: &impl Abort, ceremony: &Ceremony<'_, G>) -> Result
 }
 
 fn numbers_of<G: Group>(share: Share<G>) -> (u32, u32) {
-    (G::scalar_number(share.left.value), G::scalar_number(share.right.value))
+    (
+        G::scalar_number(share.left.value),
+        G::scalar_number(share.right.value),
+    )
 }
 
 fn check_share<G: Group>(
