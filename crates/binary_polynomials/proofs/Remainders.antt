@@ -1,5 +1,5 @@
 -- The product of group 2 is the one remainder of the product of polynomials by z^17 + z^3 + 1.
-use Rattle.std.proofs.Common.{◌≡◌, ℕ, zero, suc, ◌+◌, ◌-◌, ◌*◌, ◌/◌, ◌%◌, ◌^◌, ◌<◌, ◌≤◌, sym, refl, ap, ◌∙◌, subst, ap₂, ⊎_elim, mod-lt, mul_assoc, one-mul, pow-suc, zero-mul, arith, lit<, lit≤, pow_mono}
+use Rattle.std.proofs.Common.{◌≡◌, ℕ, zero, suc, ◌+◌, ◌*◌, ◌/◌, ◌%◌, ◌^◌, ◌<◌, ◌≤◌, sym, refl, ap, ◌∙◌, subst, ap₂, ⊎_elim, mod-lt, mul_assoc, one-mul, pow-suc, zero-mul, arith, lit<, lit≤, pow_mono}
 use lib.Bits.{bit_xor, xor_comm, xor_assoc, xor_zero_l, xor_zero_r, xor_self, xor_lt, xor_shr, xor_mod}
 use Rattle.std.proofs.lemmas.Bool.{cases_eq, cases_lt}
 use Rattle.binary_polynomials.specs.Polynomials.{times_z, sum_of_shifts, carryless, polynomials, Remainder, ProductIsRemainder}

@@ -3,7 +3,7 @@ use Rattle.std.proofs.Common.{◌≡◌, ℕ, List, Some, None, refl}
 use Rattle.group.specs.Meaning.{Meaning}
 use Rattle.sharing.specs.Codes.{refused_from, scalar_refused}
 use Rattle.protocol.specs.declared.kind.Kind.TheVariants.{Answer}
-use Rattle.protocol.specs.Record.{kind_with, kind_field, kind_number}
+use Rattle.protocol.specs.Record.{kind_with, kind_field}
 use Rattle.protocol.specs.Board.{Board}
 use Rattle.protocol.specs.Refusals.{posting_fault}
 use Rattle.protocol.proofs.Entries.{kind_number_lem}

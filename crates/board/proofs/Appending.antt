@@ -1,12 +1,12 @@
 -- What a deed leaves, for the contract of posting.
-use Rattle.std.proofs.Common.{◌≡◌, ℕ, ◌+◌, Bool, true, List, length, Some, None, Ok, Err, Option, Result, sym, refl, ap, ◌∙◌, subst, ap₂}
+use Rattle.std.proofs.Common.{◌≡◌, ℕ, ◌+◌, Bool, true, List, length, Some, None, Ok, Option, sym, ap, ◌∙◌, subst, ap₂}
 use Rattle.group.specs.Meaning.{Meaning, Lawful}
 use Rattle.protocol.specs.declared.kind.Kind.{Kind}
 use Rattle.protocol.specs.declared.kind.Kind.TheVariants as kinds
 use Rattle.protocol.specs.declared.phase.Phase.{Phase}
 use Rattle.protocol.specs.declared.phase.Phase.TheVariants.{Dealing}
 use Rattle.protocol.specs.declared.fault.CeremonyFault.{CeremonyFault}
-use Rattle.protocol.specs.Record.{kind_number, kind_with, kind_field, read_record}
+use Rattle.protocol.specs.Record.{kind_with, kind_field, read_record}
 use Rattle.protocol.specs.Board.{share_in, passes1, phase_of}
 use Rattle.protocol.specs.Refusals.{n_field, t_field, opening_fault, posting_fault, posted, equations_taken}
 use Rattle.protocol.proofs.Entries.{kind_number_lem}
@@ -17,7 +17,7 @@ use Rattle.board_index.proofs.Filing.{file_board, file_kept}
 use Rattle.board_index.proofs.Closing.{close_board, close_kept}
 use Rattle.board_index.proofs.Opening.{open_board, open_kept}
 use Rattle.frames.specs.Reading.{OfKind}
-use Rattle.board.specs.Posting.{fault_of, answer_of, posting_answer, opening_answer, Appends, AfterPosting, AfterOpening}
+use Rattle.board.specs.Posting.{answer_of, posting_answer, opening_answer, AfterPosting, AfterOpening}
 
 pub appended_is : (s : State) (bytes area : List ℕ) → area ≡ appended s bytes
     → ◌≡◌ {A = State} (record { area = area; used = s.used + length bytes; n = s.n; t = s.t; phase = s.phase; places = s.places; truths = s.truths }) (closed_at s bytes s.phase)

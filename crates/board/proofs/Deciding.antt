@@ -1,10 +1,10 @@
 -- What the queries answer, step by step.
-use Rattle.std.proofs.Common.{◌≡◌, ℕ, zero, suc, ◌+◌, ◌<◌, ◌≤◌, Bool, true, false, cond, not, ◌&&◌, ◌||◌, eqb, ltb, leb, ◌⊎◌, is_some, sym, refl, ap, ◌∙◌, ap₂, inl, inr, arith}
+use Rattle.std.proofs.Common.{◌≡◌, ℕ, ◌<◌, ◌≤◌, Bool, true, false, not, ◌&&◌, ◌||◌, ltb, is_some, sym, ap, ◌∙◌, ap₂, arith}
 use Rattle.std.proofs.lemmas.Bool.{and_left, and_right, le-leb, lt-leb, le-ltb, lt-ltb}
 use Rattle.group.specs.Meaning.{Meaning}
 use Rattle.protocol.specs.declared.phase.Phase.{Phase}
 use Rattle.protocol.specs.declared.phase.Phase.TheVariants.{Unopened, Dealing, Complaining, Answering, Exposing, Objecting, Revealing, Finished, Void}
-use Rattle.protocol.specs.Seats.{count, every, some}
+use Rattle.protocol.specs.Seats.{count, every}
 use Rattle.protocol.specs.Board.{Board, deal_of, exposure_of, complaints, complained, answered, qualified, objected, contested, starts, phase_of, phase_number}
 use Rattle.protocol.proofs.Phases.{starts_phase_lem, finished_starts, void_parts}
 use Rattle.board.proofs.SeatLoops.{some_count}

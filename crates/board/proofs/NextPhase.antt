@@ -1,15 +1,15 @@
 -- The phase that a Close begins.
-use Rattle.std.proofs.Common.{◌≡◌, ℕ, zero, suc, ◌+◌, ◌<◌, ◌≤◌, Bool, true, false, cond, ◌&&◌, eqb, leb, List, [], ◌∷◌, ◌++◌, Some, None, sym, refl, ap, ◌∙◌, subst, ap₂, arith}
+use Rattle.std.proofs.Common.{◌≡◌, ℕ, suc, ◌<◌, ◌≤◌, Bool, cond, ◌&&◌, eqb, leb, List, Some, None, sym, refl, ap, ◌∙◌, ap₂, arith}
 use mathlib.Core.Path.{fun_ext}
-use Rattle.std.proofs.lemmas.Bool.{eq-eqb, ne_eqb, le-leb, lt-leb}
+use Rattle.std.proofs.lemmas.Bool.{ne_eqb}
 use Rattle.group.specs.Meaning.{Meaning}
 use Rattle.protocol.specs.declared.kind.Kind.{Kind}
 use Rattle.protocol.specs.declared.kind.Kind.TheVariants as kinds
 use Rattle.protocol.specs.declared.phase.Phase.{Phase}
 use Rattle.protocol.specs.declared.phase.Phase.TheVariants.{Unopened, Dealing, Complaining, Answering, Exposing, Objecting, Revealing, Finished, Void}
 use Rattle.protocol.specs.Seats.{count}
-use Rattle.protocol.specs.Record.{Posted, kind_number, kind_with, kind_field}
-use Rattle.protocol.specs.Board.{Board, entry, starts, qualified, is_void, phase_after, phase_of, phase_number}
+use Rattle.protocol.specs.Record.{kind_number, kind_with, kind_field}
+use Rattle.protocol.specs.Board.{Board, starts, qualified, phase_after, phase_of, phase_number}
 use Rattle.protocol.specs.Refusals.{posting_fault, posted}
 use Rattle.protocol.proofs.Entries.{by_kind, entry_other, starts_close}
 use Rattle.protocol.proofs.Phases.{starts_phase_lem}

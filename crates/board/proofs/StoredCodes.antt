@@ -8,7 +8,7 @@ use Rattle.protocol.specs.declared.kind.Kind.{Kind}
 use Rattle.protocol.specs.Record.{Layout, Elements, SecondAndShare, layout_of, length_of}
 use Rattle.protocol.specs.Board.{entry, share_in}
 use Rattle.board_index.specs.State.{State, filled, board_of, is_indexed, look}
-use Rattle.board_index.specs.Kept.{Kept, Opened, Stored, codes_as, refused_as}
+use Rattle.board_index.specs.Kept.{Kept, Opened, codes_as, refused_as}
 use Rattle.board_index.proofs.Leaving.{area_narrow}
 use Rattle.board_index.proofs.Stored.{stored_at}
 

@@ -1,5 +1,5 @@
 -- What must hold where a ceremony takes a record, opens or closes a phase. Definitions.
-use Rattle.std.specs.Prelude.{◌≡◌, ℕ, Bool, true, List, length, None}
+use Rattle.std.specs.Prelude.{◌≡◌, ℕ, Bool, true, List, None}
 use Rattle.group.specs.Meaning.{Meaning}
 use Rattle.protocol.specs.declared.kind.Kind.{Kind}
 use Rattle.protocol.specs.declared.kind.Kind.TheVariants as kinds

@@ -1,5 +1,5 @@
 -- Records that stand one after another in bytes, and the board that they say. Definitions.
-use Rattle.std.specs.Prelude.{ℕ, zero, suc, ◌+◌, Bool, true, false, cond, List, [], ◌∷◌, map, take, ◌==◌}
+use Rattle.std.specs.Prelude.{ℕ, zero, suc, ◌+◌, Bool, cond, List, [], ◌∷◌, map, take, ◌==◌}
 use Rattle.group.specs.Meaning.{Meaning}
 use Rattle.protocol.specs.declared.kind.Kind.TheVariants as kinds
 use Rattle.protocol.specs.Record.{Posted, kind_with, length_field, kind_field, read_record}

@@ -1,5 +1,5 @@
 -- What holds of every ceremony, from its making on. Definitions.
-use Rattle.std.specs.Prelude.{◌≡◌, ℕ, ◌+◌, ◌*◌, ◌<◌, ◌≤◌, Bool, true, false, ◌⊎◌, List, [], ◌∷◌, length, is_some, Some, None, Option}
+use Rattle.std.specs.Prelude.{◌≡◌, ℕ, ◌+◌, ◌≤◌, true, ◌⊎◌, List, [], length, is_some, Some, None, Option}
 use Rattle.group.specs.Code.{code_at}
 use Rattle.group.specs.Meaning.{Meaning}
 use Rattle.group.specs.declared.fault.GroupFault.{GroupFault}

@@ -1,16 +1,16 @@
 -- The commitment to the values of two polynomials is the value of the commitments to their coefficients.
-use Rattle.std.proofs.Common.{◌≡◌, ℕ, zero, suc, ◌+◌, ◌*◌, ◌%◌, ◌^◌, true, List, sym, refl, ap, ◌∙◌, ap₂, mul_comm, zero-add, arith}
+use Rattle.std.proofs.Common.{◌≡◌, ℕ, zero, suc, ◌+◌, ◌*◌, ◌%◌, ◌^◌, true, List, sym, ap, ◌∙◌, ap₂, mul_comm, zero-add, arith}
 use Rattle.std.proofs.lemmas.Bool.{eq-eqb}
 use Rattle.group.specs.Monoid.{power}
 use Rattle.group.specs.Meaning.{Meaning, Lawful, products}
 use Rattle.group.specs.Code.{code_at}
 use Rattle.group.specs.PowerLaws.{power_add, power_member, power_mod, power_mul, power_op, power_zero, swap_middle}
 use Rattle.sharing.specs.Linear.{scaled, scalar_sum}
-use Rattle.sharing.specs.Value.{sum_from, value_at}
+use Rattle.sharing.specs.Value.{sum_from}
 use Rattle.sharing.specs.Codes.{decoded_from}
 use Rattle.sharing.specs.Commitment.{commitment}
 use Rattle.sharing.specs.LinearLaws.{scaled_scalar}
-use Rattle.dealing.specs.Dealing.{scalars_from, commitments_of, share_for, DealtSharesOpen}
+use Rattle.dealing.specs.Dealing.{scalars_from, DealtSharesOpen}
 
 module _ (m : Meaning) (laws : Lawful m) where
   -- a power with the exponent (e·a + x) modulo q, of any member

@@ -1,5 +1,5 @@
 -- A test of a history. Where it passes, the seats 1 to k are faithful, and the custodian of each has the seat's number.
-use Rattle.std.proofs.Common.{◌≡◌, ℕ, Bool, true, false, cond, not, ◌&&◌, ◌||◌, eqb, List, [], ◌∷◌, is_some, Some, None, Option, sym, refl, ap, ◌∙◌, subst, inl, inr}
+use Rattle.std.proofs.Common.{◌≡◌, ℕ, Bool, true, false, cond, not, ◌&&◌, ◌||◌, eqb, List, [], ◌∷◌, is_some, Some, None, Option, sym, refl, ap, ◌∙◌, inl, inr}
 use Rattle.std.proofs.lemmas.Bool.{cases_Bool, and_parts, or_cases, eqb-true, eq-eqb, not-true, cond-true, cond-false}
 use Rattle.group.specs.Meaning.{Meaning}
 use Rattle.protocol.specs.declared.phase.Phase.{Phase}

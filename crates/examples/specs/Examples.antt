@@ -1,12 +1,12 @@
 -- Two whole histories, byte for byte, and what they come to. Definitions.
-use Rattle.std.specs.Prelude.{◌≡◌, ℕ, Bool, true, false, List, [], ◌∷◌, ◌++◌, length, Some, None}
+use Rattle.std.specs.Prelude.{◌≡◌, ℕ, true, false, List, [], ◌∷◌, ◌++◌, length, Some, None}
 use Rattle.group.specs.Monoid.{power}
 use Rattle.group.specs.Meaning.{products}
 use Rattle.residues.specs.Residues.{residues}
 use Rattle.protocol.specs.declared.phase.Phase.TheVariants.{Finished}
 use Rattle.protocol.specs.declared.recovered.Recovered.TheVariants.{Logarithm, Openings}
 use Rattle.protocol.specs.Seats.{is_seat}
-use Rattle.protocol.specs.Board.{Board, phase_of, qualified, contested, revealed_share, key}
+use Rattle.protocol.specs.Board.{phase_of, qualified, contested, revealed_share, key}
 use Rattle.protocol.specs.Custodian.{sheet_bytes}
 use Rattle.protocol.specs.Recovery.{recovery_fault, recovered_from}
 use Rattle.protocol.specs.Guarantee.{Trusted}

@@ -11,7 +11,7 @@ use Rattle.protocol.specs.declared.phase.Phase.TheVariants.{Finished}
 use Rattle.protocol.specs.declared.fault.CeremonyFault.TheVariants.{Parameter, SmallArea, SmallOutput}
 use Rattle.protocol.specs.declared.fault.CustodianFault.TheVariants.{TooSmall}
 use Rattle.protocol.specs.declared.state.SeatState.TheVariants.{Qualified, Contested}
-use Rattle.protocol.specs.Board.{Board, empty, phase_of, contested, revealed_share, key}
+use Rattle.protocol.specs.Board.{Board, empty, phase_of, revealed_share, key}
 use Rattle.protocol.specs.Refusals.{opening_fault, after_opening, replayed, equations_replayed, report_of}
 use Rattle.protocol.specs.Readings.{state_of, seat_list_fault, key_fault}
 use Rattle.protocol.specs.Custodian.{custodian_report}

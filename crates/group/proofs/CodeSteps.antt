@@ -1,5 +1,5 @@
 -- One byte more of a code, read or written.
-use Rattle.std.proofs.Common.{◌≡◌, ℕ, zero, suc, ◌+◌, ◌-◌, ◌*◌, ◌/◌, ◌%◌, ◌^◌, ◌<◌, ◌≤◌, List, ◌∷◌, length, get_or, drop, sym, refl, ap, ◌∙◌, pow-suc, arith, get_or-drop, drop-drop}
+use Rattle.std.proofs.Common.{◌≡◌, ℕ, zero, suc, ◌+◌, ◌*◌, ◌/◌, ◌%◌, ◌^◌, ◌<◌, ◌≤◌, List, get_or, drop, sym, ap, ◌∙◌, pow-suc, arith, get_or-drop, drop-drop}
 use Rattle.group.specs.Code.{code, code_at}
 
 -- Reading: n holds the j highest bytes.

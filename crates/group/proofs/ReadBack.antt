@@ -1,8 +1,8 @@
 -- A code that stands between other bytes spells its number.
-use Rattle.std.proofs.Common.{◌≡◌, ℕ, zero, suc, ◌+◌, ◌*◌, ◌/◌, ◌%◌, ◌^◌, ◌<◌, ◌≤◌, List, [], ◌∷◌, ◌++◌, length, get_or, take, drop, sym, refl, ap, ◌∙◌, ap₂, append_assoc, pow-suc, arith, length-append}
+use Rattle.std.proofs.Common.{◌≡◌, ℕ, zero, suc, ◌+◌, ◌*◌, ◌/◌, ◌%◌, ◌^◌, ◌<◌, List, [], ◌∷◌, ◌++◌, length, take, drop, sym, refl, ◌∙◌, ap₂, append_assoc, pow-suc, arith, length-append}
 use Rattle.std.proofs.lemmas.List.Edits.{paste_all}
 use Rattle.std.proofs.lemmas.List.{get_or_at, length-take-le}
-use Rattle.group.specs.Code.{code, code_at, with_code, CodesReadBack}
+use Rattle.group.specs.Code.{code, code_at, CodesReadBack}
 use Rattle.group.specs.CodeLaws.{code_length}
 
 pub code_between : (before after : List ℕ) (w n : ℕ) → n < 256 ^ w → code_at (before ++ (code w n ++ after)) w (length before) ≡ n

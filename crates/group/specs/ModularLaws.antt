@@ -1,5 +1,5 @@
 -- Products modulo m, primes by trial division, and the inverse modulo a prime. Proofs.
-use Rattle.std.specs.Prelude.{◌≡◌, ℕ, zero, suc, ◌+◌, ◌-◌, ◌*◌, ◌/◌, ◌%◌, ◌<◌, ◌≤◌, Bool, true, false, ◌&&◌, T, nat_lt, refl}
+use Rattle.std.specs.Prelude.{◌≡◌, ℕ, zero, suc, ◌+◌, ◌-◌, ◌*◌, ◌/◌, ◌%◌, ◌<◌, ◌≤◌, Bool, true, false, ◌&&◌, T, nat_lt}
 use Rattle.std.proofs.Common.{sym, ap, subst, ◌∙◌, zero-mul, suc-mul, mul-add, mul_assoc, mul_comm, div-add-mod', mod-lt, mod-eq_of_lt, mul-le-mul, div-le_self, arith, ltb→lt}
 use Rattle.std.proofs.Math.Nat.{mod-add-div, add-mul-mod_self_left, mul-add-mod_self_right, mul-mod_right}
 use Rattle.std.proofs.Math.Decide.{dec_le}

@@ -1,5 +1,5 @@
 -- What reading a code answers, and what an inverse is. Definitions.
-use Rattle.std.specs.Prelude.{◌≡◌, ℕ, ◌*◌, ◌%◌, Bool, cond, Some, None, Ok, Err, Option, Result, nat_lt}
+use Rattle.std.specs.Prelude.{◌≡◌, ℕ, ◌*◌, ◌%◌, cond, Some, None, Ok, Err, Option, Result, nat_lt}
 use Rattle.group.specs.Meaning.{Meaning}
 use Rattle.group.specs.declared.fault.GroupFault.{GroupFault}
 use Rattle.group.specs.declared.fault.GroupFault.TheVariants.{NoCandidate, NoMember}

@@ -1,5 +1,5 @@
 -- Counts of seats, and searches among them.
-use Rattle.std.proofs.Common.{◌≡◌, ℕ, zero, suc, ◌+◌, ◌-◌, ◌≤◌, Bool, true, false, cond, is_some, Some, None, Option, refl, inl, inr, arith}
+use Rattle.std.proofs.Common.{◌≡◌, ℕ, zero, suc, ◌+◌, ◌≤◌, Bool, true, false, cond, is_some, Some, None, Option, refl, inl, inr, arith}
 use Rattle.std.proofs.lemmas.Bool.{cases_eq, and_parts, and_from, or_parts, and_cases, leb-true, le-leb, both_ways}
 use Rattle.protocol.specs.Seats.{count, every, some, lowest, or_else, is_seat, holds}
 

@@ -5,7 +5,7 @@ use Rattle.group.specs.Meaning.{Meaning}
 use Rattle.sharing.specs.Codes.{decoded_from}
 use Rattle.sharing.specs.Interpolation.{Share}
 use Rattle.protocol.specs.declared.fault.CustodianFault.{CustodianFault}
-use Rattle.protocol.specs.Seats.{holds, mapped}
+use Rattle.protocol.specs.Seats.{mapped}
 use Rattle.protocol.specs.Board.{Board, phase_of, phase_number, starts}
 use Rattle.protocol.specs.Custodian.{Custodian, seating_fault, taking_fault, seated, with_letter, read_letter}
 use Rattle.protocol.specs.History.{Call, Open, Post, SeatAt, WriteLetter, TakeLetter, Owe, DrawSheet, Recover, Made, State, with_custodian, unless_refused, after_call, after, EachLetter}

@@ -1,5 +1,5 @@
 -- What faithful seats have done, and that they are qualified.
-use Rattle.std.proofs.Common.{◌≡◌, ℕ, ◌+◌, ◌-◌, ◌≤◌, Bool, true, false, not, ◌&&◌, ◌||◌, eqb, List, map, is_some, Some, Option, sym, refl, ap, ◌∙◌, subst, inl, inr, arith}
+use Rattle.std.proofs.Common.{◌≡◌, ℕ, ◌+◌, ◌≤◌, Bool, true, false, not, ◌&&◌, ◌||◌, eqb, List, map, is_some, Some, Option, sym, refl, ap, ◌∙◌, subst, inl, inr, arith}
 use Rattle.std.proofs.lemmas.Bool.{cases_Bool, and_parts, and_from, and_cases, or_left, or_right, le-leb, eq-eqb, not-true, not-false, not_from_false}
 use Rattle.group.specs.Meaning.{Meaning, Lawful, products}
 use Rattle.sharing.specs.Value.{value_at}

@@ -1,5 +1,5 @@
 -- The bytes of passing sheets pass the tests of recovery, and are read as these sheets.
-use Rattle.std.proofs.Common.{◌≡◌, ℕ, zero, suc, ◌+◌, ◌-◌, ◌*◌, ◌/◌, ◌^◌, ◌<◌, ◌≤◌, Bool, true, false, cond, eqb, leb, List, [], ◌∷◌, ◌++◌, map, length, get_or, Some, None, sym, refl, ap, ◌∙◌, subst, ap₂, append_assoc, append-nil, mul-le-mul, arith, length-append, get_or-append-add}
+use Rattle.std.proofs.Common.{◌≡◌, ℕ, zero, suc, ◌+◌, ◌*◌, ◌/◌, ◌^◌, ◌<◌, ◌≤◌, Bool, true, false, cond, eqb, leb, List, [], ◌∷◌, ◌++◌, map, length, get_or, Some, None, sym, refl, ap, ◌∙◌, subst, ap₂, append_assoc, append-nil, mul-le-mul, arith, length-append, get_or-append-add}
 use Rattle.std.specs.List.{AllByRecursion as All}
 use Rattle.std.proofs.lemmas.Bool.{and_parts, and_from, or_from, eqb-true, eq-eqb, ne_eqb, le-leb, lt-ltb, not_from_false}
 use Rattle.group.specs.declared.fault.GroupFault.TheVariants.{NoCandidate}
@@ -7,7 +7,6 @@ use Rattle.group.specs.Code.{code, code_at}
 use Rattle.group.specs.Meaning.{Meaning, Lawful}
 use Rattle.sharing.specs.Codes.{first_of, decoded_from, refused_from, scalar_refused}
 use Rattle.sharing.specs.Interpolation.{Seats, Share}
-use Rattle.protocol.specs.declared.kind.Kind.TheVariants as kinds
 use Rattle.protocol.specs.Seats.{is_seat, mapped}
 use Rattle.protocol.specs.Board.{Board, dealers}
 use Rattle.protocol.specs.Custodian.{Sheet, same_bytes, pair_codes, write_sheet}

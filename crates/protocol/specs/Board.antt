@@ -1,5 +1,5 @@
 -- The board: the taken records, and what they decide. Definitions.
-use Rattle.std.specs.Prelude.{ℕ, zero, suc, ◌+◌, ◌*◌, Bool, true, false, cond, not, ◌&&◌, ◌||◌, List, [], ◌∷◌, ◌++◌, map, take, is_some, Some, None, Option, ◌==◌, nat_le, nat_lt, slice_index, slice_index_or}
+use Rattle.std.specs.Prelude.{ℕ, suc, ◌+◌, Bool, cond, not, ◌&&◌, ◌||◌, List, [], ◌∷◌, map, take, is_some, Some, None, Option, ◌==◌, nat_le, nat_lt, slice_index, slice_index_or}
 use Rattle.group.specs.Monoid.{power}
 use Rattle.group.specs.Meaning.{Meaning, products}
 use Rattle.sharing.specs.Linear.{scalar_sum, pair_sum}

@@ -1,5 +1,5 @@
 -- A custodian: its pairs, the record that it owes, its letters and its sheet. Definitions.
-use Rattle.std.specs.Prelude.{ℕ, zero, suc, ◌+◌, ◌*◌, Bool, true, false, cond, not, ◌&&◌, ◌||◌, List, [], ◌∷◌, ◌++◌, map, length, take, drop, is_some, Some, None, Option, ◌==◌, nat_eq, nat_le, slice_index}
+use Rattle.std.specs.Prelude.{ℕ, ◌+◌, ◌*◌, Bool, true, false, cond, not, ◌&&◌, List, [], ◌∷◌, ◌++◌, map, length, take, drop, is_some, Some, None, Option, ◌==◌, nat_eq, nat_le, slice_index}
 use Rattle.group.specs.Monoid.{power}
 use Rattle.group.specs.Code.{code, code_at}
 use Rattle.group.specs.Meaning.{Meaning, products}
@@ -16,7 +16,7 @@ use Rattle.protocol.specs.declared.fault.CeremonyFault.TheVariants.{Record, OutO
 use Rattle.protocol.specs.declared.fault.CustodianFault.{CustodianFault}
 use Rattle.protocol.specs.declared.fault.CustodianFault.TheVariants.{Ceremony, TooSmall, Stranger}
 use Rattle.protocol.specs.Seats.{is_seat, lowest, holds, mapped, or_else}
-use Rattle.protocol.specs.Record.{Posted, framed, kind_number, length_field, kind_field, codes_of, write_record}
+use Rattle.protocol.specs.Record.{Posted, framed, kind_number, length_field, kind_field, write_record}
 use Rattle.protocol.specs.Board.{Board, phase_of, phase_number, entry, has, deal_of, exposure_of, complained, objected, revealed, share_in, shares, passes1, passes2, qualified, contested, dealers}
 use Rattle.protocol.specs.Refusals.{unless, first_fault, is_framed, Report, CustodianLayer, report_of}
 

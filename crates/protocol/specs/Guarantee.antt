@@ -1,5 +1,5 @@
 -- The guarantee, for every group with the laws and every history. Definitions.
-use Rattle.std.specs.Prelude.{◌≡◌, ℕ, ◌+◌, ◌*◌, ◌<◌, ◌≤◌, Bool, true, ◌⊎◌, List, [], ◌∷◌, ◌++◌, map, length, is_some, Some, None, Option, slice_index}
+use Rattle.std.specs.Prelude.{◌≡◌, ℕ, ◌+◌, ◌*◌, ◌<◌, ◌≤◌, Bool, true, ◌⊎◌, List, [], ◌∷◌, ◌++◌, map, length, is_some, Some, None, slice_index}
 use Rattle.std.specs.List.{AllByRecursion as All}
 use Rattle.group.specs.Monoid.{power}
 use Rattle.group.specs.Meaning.{Meaning, Lawful, products}
@@ -15,7 +15,7 @@ use Rattle.protocol.specs.Board.{Board, phase_of, phase_number, deal_of, qualifi
 use Rattle.protocol.specs.Refusals.{posting_fault}
 use Rattle.protocol.specs.Custodian.{Custodian, Sheet, owed, share_from, sheet_of, write_sheet}
 use Rattle.protocol.specs.Recovery.{sheet_passes, sheets_share, recovery_fault, recovered_from}
-use Rattle.protocol.specs.History.{Call, Made, State, after, Faithful}
+use Rattle.protocol.specs.History.{Call, Made, after, Faithful}
 
 -- n − t or more seats are faithful after the calls
 pub record Trusted (m : Meaning) (made : Made) (calls : List Call) (set : ℕ → Bool) (of : ℕ → ℕ) : Type 0 where

@@ -1,5 +1,5 @@
 -- What can be read off a board: the states of the seats, the words for them, the complaints, the key's code. Definitions.
-use Rattle.std.specs.Prelude.{ℕ, Bool, cond, not, List, [], ◌∷◌, length, is_some, codes, Option, ◌==◌, nat_le, nat_lt}
+use Rattle.std.specs.Prelude.{ℕ, cond, not, List, [], ◌∷◌, length, is_some, codes, Option, ◌==◌, nat_le, nat_lt}
 use Rattle.group.specs.Code.{code}
 use Rattle.group.specs.Meaning.{Meaning}
 use Rattle.protocol.specs.declared.phase.Phase.TheVariants.{Finished}

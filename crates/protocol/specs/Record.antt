@@ -1,6 +1,5 @@
 -- Records: what their bytes say, and the bytes that say it. Definitions.
-use Rattle.std.specs.Prelude.{◌≡◌, ℕ, zero, suc, ◌+◌, ◌*◌, ◌^◌, ◌<◌, Bool, true, cond, ◌&&◌, List, [], ◌∷◌, ◌++◌, length, Some, None, Option, ◌==◌, slice_index}
-use Rattle.std.specs.List.{AllByRecursion as All}
+use Rattle.std.specs.Prelude.{ℕ, ◌+◌, ◌*◌, cond, List, [], ◌∷◌, ◌++◌, length, Some, None, Option, ◌==◌, slice_index}
 use Rattle.group.specs.Code.{code, code_at}
 use Rattle.group.specs.Meaning.{Meaning}
 use Rattle.sharing.specs.Codes.{decoded_from}

@@ -1,6 +1,6 @@
 -- Recovery from sheets: which sheets pass, and what they give. Definitions.
-use Rattle.std.specs.Prelude.{ℕ, zero, suc, ◌+◌, ◌-◌, ◌*◌, ◌%◌, Bool, true, false, cond, not, ◌&&◌, ◌||◌, List, [], ◌∷◌, ◌++◌, map, length, take, drop, Some, None, Option, ◌==◌, nat_le, nat_lt, slice_index}
-use Rattle.group.specs.Code.{code, code_at}
+use Rattle.std.specs.Prelude.{ℕ, zero, suc, ◌+◌, ◌*◌, ◌%◌, Bool, true, false, cond, not, ◌&&◌, ◌||◌, List, [], ◌∷◌, map, length, take, drop, Some, None, Option, ◌==◌, nat_le, nat_lt, slice_index}
+use Rattle.group.specs.Code.{code_at}
 use Rattle.group.specs.Meaning.{Meaning}
 use Rattle.sharing.specs.Codes.{decoded_from, refused_from, scalar_refused}
 use Rattle.sharing.specs.Interpolation.{minus, inverse, interpolated}

@@ -1,7 +1,7 @@
 -- The tests of opening and posting, in their order. The first that fails decides. Definitions.
-use Rattle.std.specs.Prelude.{ℕ, zero, suc, ◌+◌, ◌-◌, ◌*◌, Bool, true, false, cond, not, ◌&&◌, ◌||◌, List, [], ◌∷◌, ◌++◌, length, take, drop, is_some, Some, None, Option, ◌==◌, nat_le, nat_lt, slice_index}
+use Rattle.std.specs.Prelude.{ℕ, ◌+◌, ◌-◌, ◌*◌, Bool, true, false, not, ◌&&◌, ◌||◌, List, [], ◌∷◌, ◌++◌, length, take, drop, is_some, Some, None, Option, ◌==◌, nat_le, nat_lt, slice_index}
 use Rattle.group.specs.declared.fault.GroupFault.{GroupFault}
-use Rattle.group.specs.Code.{code, code_at}
+use Rattle.group.specs.Code.{code_at}
 use Rattle.group.specs.Meaning.{Meaning}
 use Rattle.group.specs.Reading as reading
 use Rattle.sharing.specs.Codes.{refused_from, element_refused, scalar_refused}
@@ -14,8 +14,8 @@ use Rattle.protocol.specs.declared.fault.Equation.TheVariants.{First, Second}
 use Rattle.protocol.specs.declared.fault.CeremonyFault.{CeremonyFault}
 use Rattle.protocol.specs.declared.fault.CeremonyFault.TheVariants.{Record, OutOfPhase, NoSeat, EqualSeats, Missing, Repeated, Unequal, FewReveals, Parameter, SmallArea, SmallOutput}
 use Rattle.protocol.specs.Seats.{is_seat, or_else, mapped}
-use Rattle.protocol.specs.Record.{Posted, kind_number, kind_with, length_field, kind_field, Layout, layout_of, length_of, writer_of, second_of, read_record}
-use Rattle.protocol.specs.Board.{Board, empty, phase_of, phase_number, has, deal_of, exposure_of, complained, objected, revealed, share_in, passes1, passes2, qualified, contested, all_revealed}
+use Rattle.protocol.specs.Record.{kind_number, kind_with, length_field, kind_field, layout_of, length_of, writer_of, second_of, read_record}
+use Rattle.protocol.specs.Board.{Board, phase_of, phase_number, has, deal_of, exposure_of, complained, objected, revealed, share_in, passes1, passes2, qualified, contested, all_revealed}
 
 -- A test: what it says against the call, or nothing.
 abbrev pub unless : {F : Type 0} → Bool → F → Option F

@@ -1,5 +1,5 @@
 -- Bytes at the start of an output.
-use Rattle.std.proofs.Common.{◌≡◌, ℕ, ◌+◌, List, ◌++◌, length, drop, sym, ap₂, le_refl, zero-add}
+use Rattle.std.proofs.Common.{◌≡◌, ℕ, List, ◌++◌, length, drop, sym, ap₂, le_refl, zero-add}
 use Rattle.std.proofs.lemmas.List.{take_all}
 use Rattle.readings.specs.Outputs.{written_in}
 

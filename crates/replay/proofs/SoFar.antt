@@ -1,6 +1,5 @@
 -- What the frames so far came to, and what is left.
-use Rattle.std.proofs.Common.{◌≡◌, ℕ, zero, suc, ◌+◌, ◌<◌, ◌≤◌, Bool, true, false, List, [], ◌∷◌, length, take, drop, Some, None, Ok, Err, Option, Result, sym, refl, ap, ◌∙◌, subst, ap₂, zero-add, arith, length-drop, drop-drop}
-use lib.Seq.{paste}
+use Rattle.std.proofs.Common.{◌≡◌, ℕ, ◌+◌, ◌≤◌, true, List, [], ◌∷◌, length, take, drop, Some, None, Ok, Err, Option, Result, sym, refl, ap, ◌∙◌, subst, ap₂, zero-add, arith, length-drop, drop-drop}
 use Rattle.group.specs.Meaning.{Meaning}
 use Rattle.protocol.specs.declared.kind.Kind.{Kind}
 use Rattle.protocol.specs.declared.kind.Kind.TheVariants as kinds
@@ -12,9 +11,9 @@ use Rattle.protocol.specs.Record.{length_field, kind_with, kind_field}
 use Rattle.protocol.specs.Board.{Board}
 use Rattle.protocol.specs.Refusals.{posting_fault, posted, unless_fault, equation_number, equations_by, after_posting, replayed, equations_taken, equations_refused, equations_tested, equations_replayed}
 use Rattle.board_index.specs.State.{State, board_of, appended}
-use Rattle.board.specs.Posting.{answer_of, posting_answer, Appends, AfterPosting}
-use Rattle.replay.specs.Files.{begins_whole, frames_after, broken_after, frames_of, broken_at, or_refused, taken_of, refused_of, Area, area_of, board_on, area_unless, area_after, area_replayed}
-use Rattle.replay.proofs.Stepping.{whole_long, frames_whole, broken_whole, frames_broken, broken_here, none_left, none_broken}
+use Rattle.board.specs.Posting.{answer_of, posting_answer, AfterPosting}
+use Rattle.replay.specs.Files.{begins_whole, broken_after, frames_of, broken_at, or_refused, taken_of, refused_of, Area, area_of, area_unless, area_after, area_replayed}
+use Rattle.replay.proofs.Stepping.{whole_long, frames_whole, broken_whole}
 
 -- `at` bytes are posted, and posting the rest leads to what posting all leads to
 pub record SoFar (m : Meaning) (first now : State) (file : List ℕ) (at taken refused equations : ℕ) : Type 0 where

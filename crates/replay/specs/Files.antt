@@ -1,5 +1,5 @@
 -- The records of a file, one after another, and what posting them comes to. Definitions.
-use Rattle.std.specs.Prelude.{◌≡◌, ℕ, zero, suc, ◌+◌, ◌-◌, Bool, true, false, cond, ◌&&◌, List, [], ◌∷◌, length, take, Some, None, Option, nat_le}
+use Rattle.std.specs.Prelude.{◌≡◌, ℕ, zero, suc, ◌+◌, Bool, true, false, ◌&&◌, List, [], ◌∷◌, length, take, Some, None, Option, nat_le}
 use Rattle.group.specs.Meaning.{Meaning}
 use Rattle.protocol.specs.declared.fault.CeremonyFault.{CeremonyFault}
 use Rattle.protocol.specs.Record.{length_field}

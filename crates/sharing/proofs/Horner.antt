@@ -1,5 +1,5 @@
 -- Horner's rule gives the sum of j^k·v_k.
-use Rattle.std.proofs.Common.{◌≡◌, ℕ, suc, ◌*◌, ◌%◌, ◌^◌, Bool, true, List, [], ◌∷◌, sym, refl, ap, ◌∙◌, ap₂, pow-suc}
+use Rattle.std.proofs.Common.{◌≡◌, ℕ, suc, ◌%◌, ◌^◌, Bool, true, List, [], ◌∷◌, sym, refl, ap, ◌∙◌, ap₂, pow-suc}
 use native.Mathlib.Nat.{pow-zero}
 use Rattle.std.specs.List.{AllByRecursion as All}
 use Rattle.group.specs.Monoid.{Monoid, Commutative}

@@ -1,10 +1,10 @@
 -- Scalars, elements and pairs can be added and scaled. Proofs.
-use Rattle.std.specs.Prelude.{◌≡◌, ℕ, zero, suc, ◌+◌, ◌*◌, ◌/◌, ◌%◌, ◌<◌, Bool, true, false, cond, ltb, List, ◌++◌, length, Some, None, Option, nat_lt, refl}
-use Rattle.std.proofs.Common.{sym, ap, ap₂, ◌∙◌, ⊎_elim, mod-lt, mod-eq_of_lt, add_assoc, add_comm, zero-add, zero-mul, suc-mul, arith, length-append}
-use Rattle.std.proofs.Math.Nat.{mod-add-mod, add-mod-mod, zero-mod, mul-mod_right, mod-mod}
+use Rattle.std.specs.Prelude.{◌≡◌, ℕ, zero, suc, ◌+◌, ◌*◌, ◌%◌, ◌<◌, Bool, true, false, cond, ltb, List, ◌++◌, length, Some, None, Option, nat_lt, refl}
+use Rattle.std.proofs.Common.{sym, ap, ap₂, ◌∙◌, mod-lt, mod-eq_of_lt, add_assoc, add_comm, zero-add, zero-mul, suc-mul, arith, length-append}
+use Rattle.std.proofs.Math.Nat.{mod-add-mod, add-mod-mod, zero-mod, mul-mod_right}
 use Rattle.std.proofs.lemmas.Bool.{ltb-true, lt-ltb, and_parts, and_from}
 use Rattle.group.specs.declared.fault.GroupFault.{GroupFault}
-use Rattle.group.specs.Code.{code, code_at}
+use Rattle.group.specs.Code.{code_at}
 use Rattle.group.specs.Meaning.{Meaning, Lawful}
 use Rattle.group.specs.Monoid.{Monoid, power, Commutative}
 use Rattle.sharing.specs.Linear.{scaled, Exponent, scalar_sum, pair_sum, both_members}

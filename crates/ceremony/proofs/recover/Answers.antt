@@ -1,4 +1,4 @@
-use Rattle.std.proofs.Common.{ℕ, ◌+◌, ◌*◌, ◌≤◌, length, mul-le-mul, arith}
+use Rattle.std.proofs.Common.{◌+◌, ◌≤◌, length, mul-le-mul, arith}
 use Rattle.ceremony.proofs.recover.Goals as goal
 
 pub interpolate-requires : goal.interpolate-requires

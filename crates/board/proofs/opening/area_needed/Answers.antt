@@ -1,4 +1,4 @@
-use Rattle.std.proofs.Common.{◌+◌, ◌-◌, ◌*◌, ◌≤◌, mul-le-mul, arith}
+use Rattle.std.proofs.Common.{◌+◌, ◌*◌, ◌≤◌, mul-le-mul, arith}
 use Rattle.board.proofs.opening.area_needed.Goals as goal
 
 pub overflow_add-result-3 : goal.overflow_add-result-3

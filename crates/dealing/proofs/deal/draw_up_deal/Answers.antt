@@ -1,9 +1,8 @@
-use Rattle.std.proofs.Common.{◌≡◌, ℕ, ◌+◌, ◌-◌, ◌*◌, ◌<◌, ◌≤◌, List, length, Ok, sym, ap, ◌∙◌, subst, ap₂, arith}
+use Rattle.std.proofs.Common.{◌≡◌, ℕ, ◌+◌, ◌*◌, List, length, sym, ap, ◌∙◌, arith}
 use lib.Seq.{paste}
 use Rattle.group.specs.Code.{code}
 use Rattle.protocol.specs.Record.{codes_of}
 use Rattle.dealing.specs.Dealing.{commitments_of}
-use Rattle.dealing.specs.Refusals.{Writes}
 use Rattle.dealing.proofs.CodeLists.{deal, decoded_length, deal_length, deal_pasted}
 use Rattle.dealing.proofs.Passing.{written, refused, drawn_up_lem, no_room}
 use Rattle.dealing.proofs.deal.draw_up_deal.Goals as goal

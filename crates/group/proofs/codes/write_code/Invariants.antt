@@ -1,4 +1,4 @@
-use Rattle.std.proofs.Common.{◌≡◌, ◌+◌, ◌-◌, drop}
+use Rattle.std.proofs.Common.{◌≡◌, ◌-◌, drop}
 use lib.Seq.{paste}
 use Rattle.group.specs.Code.{code}
 use Rattle.group.proofs.codes.write_code.Given as goal

@@ -1,4 +1,4 @@
-use Rattle.std.proofs.Common.{◌≡◌, ℕ, ◌+◌, List, ◌++◌, map, length, take, drop, replicate, sym, ap, ◌∙◌, subst, arith}
+use Rattle.std.proofs.Common.{◌≡◌, ℕ, List, ◌++◌, map, length, take, drop, replicate, sym, ap, ◌∙◌, subst, arith}
 use Rattle.sharing.specs.Interpolation.{Seats, interpolated}
 use Rattle.protocol.specs.Board.{reveals, shares}
 use Rattle.protocol.specs.Custodian.{pair_codes}

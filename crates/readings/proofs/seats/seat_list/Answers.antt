@@ -1,4 +1,4 @@
-use Rattle.std.proofs.Common.{◌≡◌, ℕ, ◌+◌, ◌++◌, map, length, drop, set, sym, refl, ap, ◌∙◌, arith}
+use Rattle.std.proofs.Common.{◌≡◌, ℕ, ◌++◌, map, length, drop, set, sym, refl, ap, ◌∙◌, arith}
 use Rattle.std.specs.List.{range_with_len}
 use Rattle.protocol.specs.declared.fault.CeremonyFault.TheVariants.{OutOfPhase, SmallOutput}
 use Rattle.protocol.specs.declared.row.SeatRow.{SeatRow}

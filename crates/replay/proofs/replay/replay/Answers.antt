@@ -1,4 +1,4 @@
-use Rattle.std.proofs.Common.{◌≡◌, ℕ, ◌+◌, ◌-◌, ◌<◌, ◌≤◌, Bool, true, false, List, length, take, drop, Ok, Err, Result, sym, refl, ap, ◌∙◌, subst, add-zero, arith, length-drop}
+use Rattle.std.proofs.Common.{◌≡◌, ℕ, ◌+◌, ◌≤◌, true, false, List, length, take, drop, Result, sym, ap, ◌∙◌, subst, add-zero, arith, length-drop}
 use Rattle.protocol.specs.declared.fault.CeremonyFault.{CeremonyFault}
 use Rattle.protocol.specs.Record.{length_field}
 use Rattle.board.specs.State.{state_of}

@@ -1,4 +1,4 @@
-use Rattle.std.proofs.Common.{◌≡◌, ℕ, suc, ◌+◌, ◌-◌, ◌*◌, ◌<◌, ◌∷◌, sym, ap, ◌∙◌, ap₂, suc-mul, arith}
+use Rattle.std.proofs.Common.{◌≡◌, ℕ, suc, ◌+◌, ◌-◌, ◌*◌, ◌<◌, ◌∷◌, sym, ap, ◌∙◌, ap₂, arith}
 use Rattle.sharing.specs.Linear.{scaled}
 use Rattle.sharing.specs.Value.{value_at}
 use Rattle.sharing.specs.Codes.{decoded_from}

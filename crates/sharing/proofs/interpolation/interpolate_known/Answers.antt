@@ -1,4 +1,4 @@
-use Rattle.std.proofs.Common.{◌≡◌, ℕ, ◌+◌, ◌-◌, ◌*◌, ◌<◌, List, length, get_or, drop, sym, ap, ◌∙◌, ap₂, arith}
+use Rattle.std.proofs.Common.{◌≡◌, ℕ, ◌+◌, ◌-◌, ◌*◌, ◌<◌, List, length, drop, sym, ap, ◌∙◌, ap₂, arith}
 use Rattle.sharing.specs.Linear.{scaled}
 use Rattle.sharing.specs.Interpolation.{weight, weighted, entries_from}
 use Rattle.sharing.proofs.CodeWalk.{room, place_after, place_first, taken_at}

@@ -1,4 +1,4 @@
-use Rattle.std.proofs.Common.{◌≡◌, ℕ, ◌-◌, sym, refl, arith}
+use Rattle.std.proofs.Common.{◌≡◌, ◌-◌, sym, refl, arith}
 use Rattle.std.proofs.lemmas.Bool.{false≢true}
 use Rattle.sharing.proofs.SeatWalk.{all_none, all_before, all_at, all_later}
 use Rattle.sharing.proofs.seats.differs_from.Goals as goal

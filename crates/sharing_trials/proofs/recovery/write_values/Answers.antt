@@ -1,4 +1,4 @@
-use Rattle.std.proofs.Common.{ℕ, ◌*◌, ◌≤◌, length, mul-le-mul, arith}
+use Rattle.std.proofs.Common.{◌≤◌, length, mul-le-mul, arith}
 use Rattle.sharing_trials.proofs.recovery.write_values.Goals as goal
 
 pub evaluate-requires : goal.evaluate-requires

@@ -1,4 +1,4 @@
-use Rattle.std.proofs.Common.{ℕ, ◌*◌, ◌≤◌, mul-le-mul, arith}
+use Rattle.std.proofs.Common.{mul-le-mul, arith}
 use Rattle.sharing_trials.proofs.values.check_values.Goals as goal
 
 pub evaluate-requires : goal.evaluate-requires

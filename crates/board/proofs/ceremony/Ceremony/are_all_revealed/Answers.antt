@@ -1,4 +1,4 @@
-use Rattle.std.proofs.Common.{◌≡◌, ℕ, ◌+◌, ◌-◌, ◌≤◌, Bool, not, ◌||◌, leb, sym, ap, ◌∙◌, arith}
+use Rattle.std.proofs.Common.{◌≡◌, ℕ, ◌+◌, ◌-◌, not, ◌||◌, leb, sym, ap, ◌∙◌, arith}
 use Rattle.protocol.specs.Seats.{count, every}
 use Rattle.protocol.specs.Board.{contested, revealed, all_revealed}
 use Rattle.board_index.specs.State.{board_of}

@@ -1,4 +1,4 @@
-use Rattle.std.proofs.Common.{◌≡◌, ap, ◌∙◌, rules}
+use Rattle.std.proofs.Common.{rules}
 use Rattle.board_index.specs.State.{board_of}
 use Rattle.board.specs.State.{state_of}
 use Rattle.board.proofs.Deciding.{objections_closed}

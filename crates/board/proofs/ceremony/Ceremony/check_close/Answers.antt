@@ -1,4 +1,4 @@
-use Rattle.std.proofs.Common.{◌≡◌, sym, refl, ap, ◌∙◌, rules}
+use Rattle.std.proofs.Common.{rules}
 use Rattle.protocol.specs.Refusals.{first_fault}
 use Rattle.board.specs.State.{state_of}
 use Rattle.board.proofs.Testing.{behind_close}

@@ -1,8 +1,7 @@
-use Rattle.std.proofs.Common.{◌≡◌, sym, refl, ap, ◌∙◌, arith, rules}
+use Rattle.std.proofs.Common.{refl, arith, rules}
 use Rattle.protocol.specs.declared.kind.Kind.TheVariants.{Objection}
 use Rattle.protocol.specs.declared.phase.Phase.TheVariants.{Objecting}
 use Rattle.protocol.specs.Refusals.{first_fault, tests_of}
-use Rattle.board_index.specs.State.{board_of}
 use Rattle.board.specs.State.{state_of}
 use Rattle.board.proofs.Testing.{behind}
 use Rattle.board.proofs.ceremony.Ceremony.check_objection.Goals as goal

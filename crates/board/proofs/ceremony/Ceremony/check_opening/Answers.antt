@@ -1,5 +1,4 @@
-use Rattle.std.proofs.Common.{◌≡◌, sym, refl, ap, ◌∙◌, rules}
-use Rattle.protocol.specs.Board.{phase_number}
+use Rattle.std.proofs.Common.{rules}
 use Rattle.protocol.specs.Refusals.{first_fault, opening_fault}
 use Rattle.board.proofs.ceremony.Ceremony.check_opening.Goals as goal
 

@@ -1,4 +1,4 @@
-use Rattle.std.proofs.Common.{◌≡◌, ℕ, ◌+◌, ◌-◌, ◌≤◌, Bool, sym, ap, ◌∙◌, arith}
+use Rattle.std.proofs.Common.{◌≡◌, ℕ, ◌+◌, ◌-◌, Bool, sym, ap, ◌∙◌, arith}
 use Rattle.protocol.specs.Seats.{count}
 use Rattle.protocol.specs.Board.{has}
 use Rattle.protocol.proofs.SeatLists.{count_below}

@@ -1,4 +1,3 @@
-use Rattle.std.proofs.Common.{rules}
 use Rattle.board_index.proofs.Filing.{file_room, file_slot}
 use Rattle.board.specs.State.{state_of}
 use Rattle.board.proofs.ceremony.Ceremony.file.Goals as goal

@@ -1,11 +1,11 @@
-use Rattle.std.proofs.Common.{◌≡◌, ◌+◌, ◌*◌, ◌≤◌, sym, refl, ap, ◌∙◌, add-mul, one-mul, arith}
+use Rattle.std.proofs.Common.{◌+◌, sym, refl, ◌∙◌, add-mul, one-mul, arith}
 use Rattle.group.specs.Code.{code_at}
 use Rattle.sharing.specs.Codes.{decoded_from}
 use Rattle.protocol.specs.declared.kind.Kind.TheVariants.{Exposure}
 use Rattle.board_index.specs.State.{filled}
 use Rattle.board_index.proofs.Stored.{not_stored}
 use Rattle.board.specs.State.{state_of}
-use Rattle.board.proofs.StoredCodes.{ElementsAt, elements_at, used_narrow, filled_length, first_taken, first_decoded}
+use Rattle.board.proofs.StoredCodes.{elements_at, used_narrow, filled_length, first_taken, first_decoded}
 use Rattle.board.proofs.ceremony.Ceremony.first_exposed.Goals as goal
 
 pub returns-in_default : goal.returns-in_default

@@ -1,4 +1,4 @@
-use Rattle.std.proofs.Common.{◌≡◌, ℕ, ◌+◌, ◌-◌, ◌≤◌, Bool, not, ◌||◌, sym, ap, ◌∙◌, arith}
+use Rattle.std.proofs.Common.{◌≡◌, ℕ, ◌-◌, not, ◌||◌, sym, ap, ◌∙◌, arith}
 use Rattle.protocol.specs.Seats.{every}
 use Rattle.protocol.specs.Board.{complained, answered}
 use Rattle.board_index.specs.State.{board_of}

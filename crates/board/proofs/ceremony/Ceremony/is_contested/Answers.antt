@@ -1,4 +1,4 @@
-use Rattle.std.proofs.Common.{◌≡◌, ℕ, ◌<◌, ◌≤◌, Bool, not, ◌&&◌, is_some, sym, ap, ◌∙◌, ap₂, arith}
+use Rattle.std.proofs.Common.{◌≡◌, Bool, not, ◌&&◌, is_some, sym, ap, ◌∙◌, ap₂, arith}
 use Rattle.protocol.specs.Seats.{count}
 use Rattle.protocol.specs.Board.{objected, exposure_of}
 use Rattle.board_index.specs.State.{board_of}

@@ -1,4 +1,4 @@
-use Rattle.std.proofs.Common.{◌≡◌, ℕ, eqb, List, Option, sym, ap, ◌∙◌, ap₂}
+use Rattle.std.proofs.Common.{ℕ, eqb, List, Option, sym, ap, ◌∙◌, ap₂}
 use Rattle.group.specs.Monoid.{power}
 use Rattle.group.specs.Meaning.{products}
 use Rattle.sharing.specs.Commitment.{equation2}

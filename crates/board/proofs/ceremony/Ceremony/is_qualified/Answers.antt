@@ -1,4 +1,4 @@
-use Rattle.std.proofs.Common.{◌≡◌, ℕ, ◌<◌, ◌≤◌, sym, ap, ◌∙◌, arith}
+use Rattle.std.proofs.Common.{◌≡◌, sym, ◌∙◌, arith}
 use Rattle.protocol.specs.Board.{complaints}
 use Rattle.board_index.specs.State.{board_of}
 use Rattle.board.specs.State.{state_of}

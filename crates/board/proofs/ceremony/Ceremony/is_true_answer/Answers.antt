@@ -1,6 +1,5 @@
 use Rattle.std.proofs.Common.{◌+◌, Some, ap, ◌∙◌, arith}
 use Rattle.protocol.specs.declared.kind.Kind.{Kind}
-use Rattle.protocol.specs.declared.kind.Kind.TheVariants.{Answer}
 use Rattle.protocol.specs.Record.{layout_of, length_of}
 use Rattle.board_index.specs.State.{board_of}
 use Rattle.board.specs.State.{state_of}

@@ -1,4 +1,4 @@
-use Rattle.std.proofs.Common.{◌≡◌, ℕ, Bool, List, sym, refl, subst, ap₂}
+use Rattle.std.proofs.Common.{ℕ, Bool, List, sym, refl, subst, ap₂}
 use Rattle.protocol.specs.declared.phase.Phase.TheVariants.{Unopened}
 use Rattle.board_index.specs.Frames.{records_after, board_in}
 use Rattle.board_index.specs.State.{State}

@@ -1,6 +1,5 @@
-use Rattle.std.proofs.Common.{◌≡◌, ◌<◌, ◌≤◌, Bool, leb, sym, refl, ap, ◌∙◌, arith}
+use Rattle.std.proofs.Common.{◌≡◌, sym, ap, ◌∙◌, arith}
 use Rattle.std.proofs.lemmas.Bool.{le-leb, lt-leb}
-use Rattle.protocol.specs.declared.phase.Phase.{Phase}
 use Rattle.protocol.specs.declared.phase.Phase.TheVariants as phases
 use Rattle.protocol.specs.Seats.{count}
 use Rattle.protocol.specs.Board.{qualified}

@@ -1,9 +1,6 @@
-use Rattle.std.proofs.Common.{◌≡◌, length, None, Option, sym, refl, ap, ◌∙◌, subst, arith}
-use Rattle.protocol.specs.Refusals.{opening_fault}
-use Rattle.board_index.specs.State.{State, board_of}
+use Rattle.std.proofs.Common.{sym, arith}
 use Rattle.board_index.proofs.Opening.{begins, open_room}
 use Rattle.board.specs.State.{state_of}
-use Rattle.board.specs.Posting.{fault_of, answer_of}
 use Rattle.board.proofs.Appending.{opened_is, opened_as, opened_kept, opening_answered}
 use Rattle.board.proofs.ceremony.Ceremony.open.Goals as goal
 

@@ -1,4 +1,4 @@
-use Rattle.std.proofs.Common.{◌≡◌, ℕ, eqb, List, Option, sym, ap, ◌∙◌, ap₂}
+use Rattle.std.proofs.Common.{ℕ, eqb, List, Option, sym, ap, ◌∙◌, ap₂}
 use Rattle.sharing.specs.Commitment.{equation1}
 use Rattle.protocol.specs.Seats.{holds}
 use Rattle.protocol.specs.Board.{passes1}

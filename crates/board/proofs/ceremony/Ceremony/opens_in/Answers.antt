@@ -1,4 +1,4 @@
-use Rattle.std.proofs.Common.{◌≡◌, ℕ, ap, ◌∙◌, arith}
+use Rattle.std.proofs.Common.{ℕ, ap, ◌∙◌, arith}
 use Rattle.protocol.specs.Board.{passes1}
 use Rattle.board_index.specs.State.{board_of}
 use Rattle.board.specs.State.{state_of}

@@ -1,7 +1,6 @@
-use Rattle.std.proofs.Common.{◌≡◌, ℕ, false, Err, Option, Result, sym, refl, ap, ◌∙◌, subst, arith, rules}
+use Rattle.std.proofs.Common.{◌≡◌, ℕ, false, Err, Option, Result, sym, refl, ap, ◌∙◌, subst, rules}
 use Rattle.std.proofs.lemmas.Result.{err_from_is_err_and}
 use Rattle.protocol.specs.declared.fault.CeremonyFault.{CeremonyFault}
-use Rattle.protocol.specs.declared.fault.CeremonyFault.TheVariants.{Record}
 use Rattle.protocol.specs.Record.{kind_with, kind_field}
 use Rattle.protocol.specs.Board.{phase_of, phase_number}
 use Rattle.protocol.specs.Refusals.{equations_taken}

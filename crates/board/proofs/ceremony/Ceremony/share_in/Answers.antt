@@ -1,10 +1,10 @@
-use Rattle.std.proofs.Common.{◌≡◌, ◌+◌, sym, ap, ◌∙◌, arith}
+use Rattle.std.proofs.Common.{◌+◌, sym, ◌∙◌, arith}
 use Rattle.group.specs.Code.{code_at}
 use Rattle.sharing.specs.Codes.{decoded_from}
 use Rattle.board_index.specs.State.{filled}
 use Rattle.board_index.proofs.Stored.{not_stored}
 use Rattle.board.specs.State.{state_of}
-use Rattle.board.proofs.StoredCodes.{ShareAt, share_at, used_narrow, filled_length, pair_taken, pair_decoded}
+use Rattle.board.proofs.StoredCodes.{share_at, used_narrow, filled_length, pair_taken, pair_decoded}
 use Rattle.board.proofs.ceremony.Ceremony.share_in.Goals as goal
 
 pub returns-in_default : goal.returns-in_default

@@ -1,4 +1,4 @@
-use Rattle.std.proofs.Common.{◌≡◌, get_or, sym, refl, ap, ◌∙◌}
+use Rattle.std.proofs.Common.{get_or, sym, refl, ap, ◌∙◌}
 use Rattle.board.specs.State.{state_of}
 use Rattle.board.specs.Posting.{fault_of}
 use Rattle.board.proofs.Appending.{files, filed, filed_kept, answered_as}

@@ -1,4 +1,4 @@
-use Rattle.std.proofs.Common.{◌≡◌, None, sym, refl, ap, ◌∙◌}
+use Rattle.std.proofs.Common.{sym, refl, ap, ◌∙◌}
 use Rattle.board.specs.State.{state_of}
 use Rattle.board.specs.Posting.{fault_of}
 use Rattle.board_index.proofs.Closing.{close_room}

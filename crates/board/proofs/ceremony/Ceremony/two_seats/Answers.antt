@@ -1,4 +1,4 @@
-use Rattle.std.proofs.Common.{◌≡◌, sym, refl, ap, ◌∙◌, rules}
+use Rattle.std.proofs.Common.{rules}
 use Rattle.protocol.specs.Refusals.{first_fault}
 use Rattle.board.proofs.ceremony.Ceremony.two_seats.Goals as goal
 

@@ -1,5 +1,5 @@
-use Rattle.std.proofs.Common.{◌≡◌, ℕ, get_or, sym, ap, ◌∙◌, rules}
-use Rattle.board_index.specs.State.{slot, unless_zero, look}
+use Rattle.std.proofs.Common.{ℕ, get_or, sym, ap, ◌∙◌, rules}
+use Rattle.board_index.specs.State.{unless_zero, look}
 use Rattle.board_index.proofs.Looking.{look_low, unless_zero_some}
 use Rattle.board_index.proofs.index.Index.find.Goals as goal
 

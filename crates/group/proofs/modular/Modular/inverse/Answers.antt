@@ -1,4 +1,4 @@
-use Rattle.std.proofs.Common.{◌≡◌, ℕ, ◌-◌, ◌*◌, ◌/◌, ◌%◌, ◌<◌, ap, ◌∙◌, ⊎_elim, mod-lt, mod-eq_of_lt, one-mul, arith}
+use Rattle.std.proofs.Common.{ℕ, ◌*◌, ◌%◌, ◌<◌, ap, ◌∙◌, ⊎_elim, mod-lt, mod-eq_of_lt, one-mul, arith}
 use Rattle.std.proofs.lemmas.Bool.{cases_eq}
 use Rattle.group.specs.ModularLaws.{inverse_turn}
 use Rattle.group.proofs.modular.Modular.inverse.Goals as goal

@@ -1,4 +1,4 @@
-use Rattle.std.proofs.Common.{◌≡◌, sym, ◌∙◌}
+use Rattle.std.proofs.Common.{sym, ◌∙◌}
 use Rattle.sharing.specs.LinearLaws.{scaled_pair, join}
 use Rattle.sharing.proofs.pair.PairLinear.scale.Goals as goal
 
