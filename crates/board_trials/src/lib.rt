@@ -6,7 +6,7 @@ mod codes;
 #[cfg(test)]
 mod figures;
 #[cfg(test)]
-mod frames;
+mod framing;
 #[cfg(test)]
 mod record;
 #[cfg(test)]

@@ -1,7 +1,7 @@
 -- Codes that stand in bytes are read back. What stands at a place is said by `drop`: the bytes from there on are a part, then the rest.
 use Rattle.std.proofs.Common.{◌≡◌, ℕ, zero, suc, ◌+◌, ◌*◌, ◌/◌, ◌%◌, ◌^◌, ◌<◌, List, [], ◌∷◌, ◌++◌, length, get_or, drop, sym, refl, ap, ◌∙◌, ap₂, append_assoc, suc-mul, pow-suc, zero-mul, arith, length-append, get_or-drop, drop-drop}
 use lib.Seq.{drop-append_seam}
-use Rattle.std.specs.List.{AllByRecursion as All}
+use Rattle.std.specs.List.{AllByRecursion}
 use Rattle.group.specs.Code.{code, code_at}
 use Rattle.sharing.specs.Codes.{decoded_from}
 use Rattle.group.specs.CodeLaws.{code_length}
@@ -40,7 +40,7 @@ unfolding codes_of
 codes_length w [] = sym (zero-mul w)
 codes_length w (n ∷ ns) = length-append (code w n) (codes_of w ns) ∙ omega (arith, code_length w n, codes_length w ns, suc-mul (length ns) w)
 
-pub codes_back : (w : ℕ) (ns bytes : List ℕ) (at : ℕ) (rest : List ℕ) → All (λ n. n < 256 ^ w) ns → drop at bytes ≡ codes_of w ns ++ rest
+pub codes_back : (w : ℕ) (ns bytes : List ℕ) (at : ℕ) (rest : List ℕ) → AllByRecursion (λ n. n < 256 ^ w) ns → drop at bytes ≡ codes_of w ns ++ rest
     → decoded_from (λ place. code_at bytes w place) w at (length ns) ≡ ns
 unfolding codes_of decoded_from
 codes_back w [] bytes at rest small e = refl
@@ -60,7 +60,7 @@ pairs_length w (share ∷ shares) =
     ∙ omega (arith, length-append (code w share.1) (pair_codes w shares), code_length w share.0, code_length w share.1, pairs_length w shares)
 
 pub pairs_back : (w : ℕ) (shares : List (ℕ × ℕ)) (bytes : List ℕ) (at : ℕ) (rest : List ℕ)
-    → All (λ share. (share.0 < 256 ^ w) × (share.1 < 256 ^ w)) shares → drop at bytes ≡ pair_codes w shares ++ rest
+    → AllByRecursion (λ share. (share.0 < 256 ^ w) × (share.1 < 256 ^ w)) shares → drop at bytes ≡ pair_codes w shares ++ rest
     → decoded_from (λ place. (code_at bytes w place, code_at bytes w (place + w))) (2 * w) at (length shares) ≡ shares
 unfolding pair_codes decoded_from
 pairs_back w [] bytes at rest small e = refl

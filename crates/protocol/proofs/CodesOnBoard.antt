@@ -1,6 +1,6 @@
 -- Codes that no test says anything against.
 use Rattle.std.proofs.Common.{◌≡◌, ℕ, zero, suc, ◌+◌, true, ltb, List, length, None, refl, ap}
-use Rattle.std.specs.List.{AllByRecursion as All}
+use Rattle.std.specs.List.{AllByRecursion}
 use Rattle.std.proofs.lemmas.Bool.{ltb-true}
 use Rattle.group.specs.Code.{code_at}
 use Rattle.group.specs.Meaning.{Meaning}
@@ -16,7 +16,7 @@ decoded_length decoded w p zero = refl
 decoded_length decoded w p (suc k) = ap suc (decoded_length decoded w (p + w) k)
 
 pub elements_members : (m : Meaning) (bytes : List ℕ) (at count : ℕ) → refused_from (element_refused m bytes) m.w at count ≡ None
-    → All (λ u. m.member u ≡ true) (decoded_from (λ place. code_at bytes m.w place) m.w at count)
+    → AllByRecursion (λ u. m.member u ≡ true) (decoded_from (λ place. code_at bytes m.w place) m.w at count)
 elements_members m bytes at count e =
     decoded_members (λ place. code_at bytes m.w place) m.w m.member (element_refused m bytes) (element_judged m bytes) at count e
 

@@ -1,6 +1,6 @@
 -- Part (b): a faithful seat has a share from every qualified dealer, and its sheet passes.
 use Rattle.std.proofs.Common.{◌≡◌, ℕ, ◌<◌, ◌≤◌, Bool, true, false, not, ◌&&◌, ◌||◌, eqb, List, [], ◌∷◌, is_some, Some, Option, sym, refl, ap, ◌∙◌, ap₂, inl, inr, arith}
-use Rattle.std.specs.List.{AllByRecursion as All}
+use Rattle.std.specs.List.{AllByRecursion}
 use Rattle.std.proofs.lemmas.Bool.{cases_Bool, and_from, and_cases, or_left, or_right, lt-ltb, eqb-true, eq-eqb, not-false, cond-true}
 use Rattle.group.specs.Meaning.{Meaning, Lawful, products}
 use Rattle.sharing.specs.Value.{value_at}
@@ -99,7 +99,7 @@ module _ (records-back : RecordsReadBack) (letters-back : LettersReadBack) (m : 
   has_share : (i : ℕ) → qualified m b i ≡ true → Held records-back letters-back m laws made calls set of faithful j f c there i
   has_share i q = held records-back letters-back m laws made calls set of faithful j f c there (omega (arith, st)) i q
 
-  rows : (l : List ℕ) → All (λ i. qualified m b i ≡ true) l → (ps : List (ℕ × ℕ)) × (all_of (share_from m b c) l ≡ Some ps) × (shares_pass m b c.seat l ps ≡ true)
+  rows : (l : List ℕ) → AllByRecursion (λ i. qualified m b i ≡ true) l → (ps : List (ℕ × ℕ)) × (all_of (share_from m b c) l ≡ Some ps) × (shares_pass m b c.seat l ps ≡ true)
   unfolding all_of shares_pass
   rows [] a = ([], refl, refl)
   rows (i ∷ l) a =

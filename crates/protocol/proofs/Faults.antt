@@ -1,6 +1,6 @@
 -- Lists of tests: where the first fault is none, no test says anything.
 use Rattle.std.proofs.Common.{◌≡◌, Bool, true, false, List, [], ◌∷◌, Some, None, Option, sym, refl, ap, ◌∙◌}
-use Rattle.std.specs.List.{AllByRecursion as All}
+use Rattle.std.specs.List.{AllByRecursion}
 use Rattle.protocol.specs.Seats.{or_else, mapped}
 use Rattle.protocol.specs.Refusals.{unless, first_fault}
 use Rattle.protocol.proofs.Counting.{none_some}
@@ -9,12 +9,12 @@ pub or_else_none : {A : Type 0} (a b : Option A) → or_else a b ≡ None → (a
 or_else_none None b e = (refl, e)
 or_else_none (Some a) b e = none_some a (sym e)
 
-pub passed : {F : Type 0} (tests : List (Option F)) → first_fault tests ≡ None → All (λ f. f ≡ None) tests
+pub passed : {F : Type 0} (tests : List (Option F)) → first_fault tests ≡ None → AllByRecursion (λ f. f ≡ None) tests
 unfolding first_fault
 passed [] e = tt
 passed (test ∷ tests) e = let p = or_else_none test (first_fault tests) e in (p.0, passed tests p.1)
 
-pub all_passed : {F : Type 0} (tests : List (Option F)) → All (λ f. f ≡ None) tests → first_fault tests ≡ None
+pub all_passed : {F : Type 0} (tests : List (Option F)) → AllByRecursion (λ f. f ≡ None) tests → first_fault tests ≡ None
 unfolding first_fault
 all_passed [] a = refl
 all_passed (test ∷ tests) a = ap (λ o. or_else o (first_fault tests)) a.0 ∙ all_passed tests a.1

@@ -1,6 +1,6 @@
 -- What a custodian draws up fits its bytes.
 use Rattle.std.proofs.Common.{◌≡◌, ℕ, ◌^◌, ◌<◌, ◌≤◌, Bool, true, false, cond, not, ◌&&◌, eqb, ◌⊎◌, List, [], ◌∷◌, map, length, is_some, Some, None, Option, sym, refl, ap, ◌∙◌, subst, inl, inr, arith}
-use Rattle.std.specs.List.{AllByRecursion as All}
+use Rattle.std.specs.List.{AllByRecursion}
 use Rattle.std.proofs.lemmas.Bool.{and_parts}
 use Rattle.group.specs.Meaning.{Meaning, Lawful}
 use Rattle.sharing.specs.Commitment.{commitment}
@@ -71,12 +71,12 @@ module _ (m : Meaning) (laws : Lawful m) (made : Made) (calls : List Call) (k : 
   pub seat_small : c.seat ≤ 32
   seat_small = omega (arith, I.high, n32)
 
-  elements_fit : (f : ℕ × ℕ → ℕ) → ((p : ℕ × ℕ) → m.member (f p) ≡ true) → (cs : List (ℕ × ℕ)) → All (λ n. n < 256 ^ m.w) (map f cs)
+  elements_fit : (f : ℕ × ℕ → ℕ) → ((p : ℕ × ℕ) → m.member (f p) ≡ true) → (cs : List (ℕ × ℕ)) → AllByRecursion (λ n. n < 256 ^ m.w) (map f cs)
   elements_fit f inside [] = tt
   elements_fit f inside (p ∷ cs) = (laws.member_fits (f p) (inside p), elements_fit f inside cs)
 
   abbrev TwoCodes : List ℕ → Type 0
-  TwoCodes codes = (length codes ≡ 2) × All (λ n. n < 256 ^ m.s) codes
+  TwoCodes codes = (length codes ≡ 2) × AllByRecursion (λ n. n < 256 ^ m.s) codes
 
   codes_fit : (p : ℕ × ℕ) → Share m.q p → TwoCodes (share_codes (Some p))
   codes_fit p h = let fits = laws.scalar_fits in (refl, (omega (arith, h.0), (omega (arith, h.1), tt)))

@@ -1,6 +1,6 @@
 -- Sheets and letters are read back whatever sixteen numbers their label has: the label is copied, and nothing else depends on it.
 use Rattle.std.proofs.Common.{◌≡◌, ℕ, zero, suc, ◌+◌, ◌*◌, ◌^◌, ◌<◌, List, [], ◌∷◌, ◌++◌, length, get_or, take, drop, replicate, sym, refl, ap, ◌∙◌, ap₂, append_assoc, arith, length-append, take_at, get_or-append-add, drop_at}
-use Rattle.std.specs.List.{AllByRecursion as All}
+use Rattle.std.specs.List.{AllByRecursion}
 use Rattle.group.specs.Code.{code, code_at}
 use Rattle.group.specs.Meaning.{Meaning, Lawful}
 use Rattle.sharing.specs.Codes.{decoded_from}
@@ -9,7 +9,7 @@ use Rattle.protocol.specs.Recovery.{sheet_at, sheet_size}
 use Rattle.protocol.specs.ReadBack.{SheetFits, SheetsReadBack, LettersReadBack}
 use Rattle.protocol.proofs.SheetBytes.{code_behind, length_code, SheetReads, SheetSmall}
 
-zeros : (n : ℕ) → All (λ x. x < 256) (replicate n 0)
+zeros : (n : ℕ) → AllByRecursion (λ x. x < 256) (replicate n 0)
 zeros zero = tt
 zeros (suc n) = (omega arith, zeros n)
 

@@ -1,6 +1,6 @@
 -- The records on the board: what their codes are, and what held when they were taken.
 use Rattle.std.proofs.Common.{◌≡◌, ℕ, ◌+◌, ◌≤◌, true, List, length, is_some, Some, sym, ap, ◌∙◌, subst, arith}
-use Rattle.std.specs.List.{AllByRecursion as All}
+use Rattle.std.specs.List.{AllByRecursion}
 use Rattle.std.proofs.lemmas.Bool.{eqb-true}
 use Rattle.group.specs.Meaning.{Meaning, products}
 use Rattle.sharing.specs.Value.{value_at}
@@ -75,7 +75,7 @@ module _ (m : Meaning) (made : Made) where
         (s.0, omega (arith, s.1, n))
 
     abbrev Elements : List ℕ → Type 0
-    Elements codes = (length codes ≡ b.t + 1) × All (λ u. m.member u ≡ true) codes
+    Elements codes = (length codes ≡ b.t + 1) × AllByRecursion (λ u. m.member u ≡ true) codes
 
     pub deal_codes : (i : ℕ) (codes : List ℕ) → deal_of b i ≡ Some codes → Elements codes
     unfolding tests_of

@@ -1,6 +1,6 @@
 -- Reading a record that was written gives it back.
 use Rattle.std.proofs.Common.{◌≡◌, ℕ, ◌+◌, ◌*◌, ◌^◌, ◌<◌, ◌≤◌, List, [], ◌∷◌, length, drop, sym, refl, ap, ◌∙◌, append-nil, mul-le-mul, arith}
-use Rattle.std.specs.List.{AllByRecursion as All}
+use Rattle.std.specs.List.{AllByRecursion}
 use Rattle.group.specs.Code.{code_at}
 use Rattle.group.specs.Meaning.{Meaning, Lawful}
 use Rattle.sharing.specs.Codes.{decoded_from}
@@ -36,7 +36,7 @@ same_posted : (r : Posted) {writer second : ℕ} {codes : List ℕ} → writer �
 same_posted r p q e = λ i. record { kind = r.kind; writer = p i; second = q i; codes = e i }
 
 -- codes that end the bytes, as many as the layout asks for
-codes_at_end : (w count : ℕ) (ns bytes : List ℕ) (at : ℕ) → length ns ≡ count → All (λ n. n < 256 ^ w) ns → drop at bytes ≡ codes_of w ns
+codes_at_end : (w count : ℕ) (ns bytes : List ℕ) (at : ℕ) → length ns ≡ count → AllByRecursion (λ n. n < 256 ^ w) ns → drop at bytes ≡ codes_of w ns
     → decoded_from (λ place. code_at bytes w place) w at count ≡ ns
 codes_at_end w count ns bytes at many small e =
     ap (decoded_from (λ place. code_at bytes w place) w at) (sym many) ∙ codes_back w ns bytes at [] small (e ∙ sym (append-nil (codes_of w ns)))

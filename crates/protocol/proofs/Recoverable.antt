@@ -1,6 +1,6 @@
 -- Part (c): recovery from any t + 1 passing sheets of different seats.
 use Rattle.std.proofs.Common.{◌≡◌, ℕ, ◌+◌, ◌^◌, ◌<◌, ◌≤◌, true, false, ◌⊎◌, List, [], ◌∷◌, length, None, sym, refl, ap, ◌∙◌, inl, inr, arith}
-use Rattle.std.specs.List.{AllByRecursion as All}
+use Rattle.std.specs.List.{AllByRecursion}
 use Rattle.std.proofs.ByRecursion.{All-weaker}
 use Rattle.std.proofs.lemmas.Bool.{eq-eqb, le-leb}
 use Rattle.group.specs.Meaning.{Meaning, Lawful}
@@ -39,7 +39,7 @@ module _ (read_back : SheetsReadBack) (m : Meaning) (laws : Lawful m) (made : Ma
             (shares_below m b s.seat (dealers m b) s.shares S.shares);
       }
 
-  nobody : (sheets : List Sheet) → All (λ s. among s.seat [] ≡ false) sheets
+  nobody : (sheets : List Sheet) → AllByRecursion (λ s. among s.seat [] ≡ false) sheets
   unfolding among
   nobody [] = tt
   nobody (s ∷ sheets) = (refl, nobody sheets)
@@ -72,7 +72,7 @@ module _ (read_back : SheetsReadBack) (m : Meaning) (laws : Lawful m) (made : Ma
       bytes : List ℕ
       bytes = sheets_written m sheets
 
-      sounds : All (Sound m b) sheets
+      sounds : AllByRecursion (Sound m b) sheets
       sounds = All-weaker (λ s. sheet_passes m b s ≡ true) (Sound m b) (sound m b) sheets passes
 
       R : (sheets_fault m b bytes [] (length sheets) 0 ≡ None) × (sheets_in m (length (dealers m b)) bytes (length sheets) 0 ≡ sheets)

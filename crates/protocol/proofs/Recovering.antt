@@ -1,6 +1,6 @@
 -- Recovery from passing sheets: the logarithm of the key, or two openings.
 use Rattle.std.proofs.Common.{◌≡◌, ℕ, ◌+◌, ◌%◌, ◌<◌, ◌≤◌, Bool, true, false, cond, not, ◌&&◌, ◌||◌, eqb, ltb, ◌⊎◌, List, [], ◌∷◌, map, length, get_or, take, Some, None, Option, sym, refl, ap, ◌∙◌, subst, ap₂, inl, inr, mod-lt, arith}
-use Rattle.std.specs.List.{AllByRecursion as All}
+use Rattle.std.specs.List.{AllByRecursion}
 use Rattle.std.proofs.ByRecursion.{All-take, All-map, All-weaker}
 use Rattle.std.proofs.lemmas.Bool.{cases_Bool, and_parts, and_cases, or_cases, ltb-true, eqb-true, eq-eqb, not-true, not-false, cond-true, cond-false}
 use Rattle.group.specs.Monoid.{power}
@@ -47,14 +47,14 @@ module _ (m : Meaning) (laws : Lawful m) where
   interpolated_below (e ∷ es) w = let above = laws.q_above in (mod-lt _ (omega arith), mod-lt _ (omega arith))
 
   -- what opens the values of commitments, or has the values of elements for powers, at t + 1 seats
-  opens_first : (t : ℕ) (entries : List (ℕ × (ℕ × ℕ))) → Seats (seats_of entries) → (C : List ℕ) → All (λ u. m.member u ≡ true) C → length C ≡ t + 1 → length entries ≡ t + 1
-      → All (λ e. Share m.q e.1 × (commitment m e.1 ≡ value_at (products m) C e.0)) entries
+  opens_first : (t : ℕ) (entries : List (ℕ × (ℕ × ℕ))) → Seats (seats_of entries) → (C : List ℕ) → AllByRecursion (λ u. m.member u ≡ true) C → length C ≡ t + 1 → length entries ≡ t + 1
+      → AllByRecursion (λ e. Share m.q e.1 × (commitment m e.1 ≡ value_at (products m) C e.0)) entries
       → commitment m (interpolated (shares m) m.q entries) ≡ get_or C 0 0
   opens_first t entries s [] a lc le h = absurd (omega arith)
   opens_first t entries s (c ∷ cs) a lc le h = openings_interpolate_lem m laws entries s c cs a (lc ∙ sym le) h
 
-  power_first : (t : ℕ) (entries : List (ℕ × (ℕ × ℕ))) → Seats (seats_of entries) → (A : List ℕ) → All (λ u. m.member u ≡ true) A → length A ≡ t + 1 → length entries ≡ t + 1
-      → All (λ e. pow e.1.0 ≡ value_at (products m) A e.0) entries
+  power_first : (t : ℕ) (entries : List (ℕ × (ℕ × ℕ))) → Seats (seats_of entries) → (A : List ℕ) → AllByRecursion (λ u. m.member u ≡ true) A → length A ≡ t + 1 → length entries ≡ t + 1
+      → AllByRecursion (λ e. pow e.1.0 ≡ value_at (products m) A e.0) entries
       → (d : ℕ) → pow (interpolated (shares m) m.q entries).0 ≡ get_or A 0 d
   power_first t entries s [] a lc le h d = absurd (omega arith)
   power_first t entries s (c ∷ cs) a lc le h d =
@@ -71,7 +71,7 @@ module _ (m : Meaning) (laws : Lawful m) where
   logarithm : (x u : ℕ) → x < m.q → pow x ≡ u → IsLogarithm m x u
   logarithm x u l e = record { below = l; is = e; only = λ y hy ey. logarithms_unique_lem m laws y x hy l (ey ∙ sym e) }
 
-product_same : (m : Meaning) (f g : ℕ → ℕ) (l : List ℕ) → All (λ i. f i ≡ g i) l → product_over m f l ≡ product_over m g l
+product_same : (m : Meaning) (f g : ℕ → ℕ) (l : List ℕ) → AllByRecursion (λ i. f i ≡ g i) l → product_over m f l ≡ product_over m g l
 unfolding product_over
 product_same m f g [] a = refl
 product_same m f g (i ∷ l) a = ap₂ m.product a.0 (product_same m f g l a.1)
@@ -181,7 +181,7 @@ module _ (m : Meaning) (laws : Lawful m) (made : Made) (calls : List Call) (fin 
       row : ℕ → ℕ × (ℕ × ℕ)
       row j = (j, share_or0 (entry b.taken kinds.Reveal j i))
 
-      there : All (λ j. revealed b j i ≡ true) low
+      there : AllByRecursion (λ j. revealed b j i ≡ true) low
       there = All-take (λ j. revealed b j i ≡ true) (b.t + 1) who (those_all b.n (λ j. revealed b j i))
 
       same_seats : seats_of (map row low) ≡ low
@@ -195,8 +195,8 @@ module _ (m : Meaning) (laws : Lawful m) (made : Made) (calls : List Call) (fin 
           let e = some_of (entry b.taken kinds.Reveal j i) r in
           subst (λ (o : Option (List ℕ)). Share m.q (share_or0 o) × (commitment m (share_or0 o) ≡ value_at (products m) C j)) (sym e.1) (reveal_opens m made calls i C d j e.0 e.1)
 
-  module _ (sheets : List Sheet) (ls : length sheets ≡ b.t + 1) (passes : All (λ s. sheet_passes m b s ≡ true) sheets) (different : Seats (map (λ s. s.seat) sheets)) where
-    sounds : All (Sound m b) sheets
+  module _ (sheets : List Sheet) (ls : length sheets ≡ b.t + 1) (passes : AllByRecursion (λ s. sheet_passes m b s ≡ true) sheets) (different : Seats (map (λ s. s.seat) sheets)) where
+    sounds : AllByRecursion (Sound m b) sheets
     sounds = All-weaker (λ s. sheet_passes m b s ≡ true) (Sound m b) (sound m b) sheets passes
 
     entry_of : ℕ → Sheet → ℕ × (ℕ × ℕ)
@@ -208,7 +208,7 @@ module _ (m : Meaning) (laws : Lawful m) (made : Made) (calls : List Call) (fin 
     entries_length : (i : ℕ) → length (sheet_entries m b sheets i) ≡ b.t + 1
     entries_length i = length_map (λ (s : Sheet). (s.seat, share_of (dealers m b) s.shares i)) sheets ∙ ls
 
-    column : (i : ℕ) → qualified m b i ≡ true → All (λ s. Passing m b s.seat i (share_of (dealers m b) s.shares i)) sheets
+    column : (i : ℕ) → qualified m b i ≡ true → AllByRecursion (λ s. Passing m b s.seat i (share_of (dealers m b) s.shares i)) sheets
     column i q =
         let r = dealer_seat i q in
         All-weaker (Sound m b) (λ s. Passing m b s.seat i (share_of (dealers m b) s.shares i))

@@ -1,30 +1,30 @@
 -- Lists of different seats, by rising seat.
 use Rattle.std.proofs.Common.{◌≡◌, ℕ, zero, suc, ◌+◌, ◌<◌, ◌≤◌, Bool, true, false, cond, ◌⊎◌, List, [], ◌∷◌, ◌++◌, map, length, take, refl, ap, ◌∙◌, inl, inr, arith, length-append}
-use Rattle.std.specs.List.{AllByRecursion as All}
+use Rattle.std.specs.List.{AllByRecursion}
 use Rattle.std.proofs.ByRecursion.{All-append, All-weaker}
 use Rattle.std.proofs.lemmas.Bool.{cases_eq}
 use Rattle.sharing.specs.Interpolation.{Seats, seats_of}
 use Rattle.protocol.specs.Seats.{count, those}
 
-those_below : (n : ℕ) (P : ℕ → Bool) → All (λ i. i < suc n) (those n P)
+those_below : (n : ℕ) (P : ℕ → Bool) → AllByRecursion (λ i. i < suc n) (those n P)
 unfolding those
 those_below zero P = tt
 those_below (suc n) P =
     All-append (λ i. i < suc (suc n)) (those n P) (cond (P (suc n)) (suc n ∷ []) [])
     (All-weaker (λ i. i < suc n) (λ i. i < suc (suc n)) (λ i h. omega arith) (those n P) (those_below n P)) (go (P (suc n)))
   where
-    go : (b : Bool) → All (λ i. i < suc (suc n)) (cond b (suc n ∷ []) [])
+    go : (b : Bool) → AllByRecursion (λ i. i < suc (suc n)) (cond b (suc n ∷ []) [])
     go true = (omega arith, tt)
     go false = tt
 
 abbrev pub Apart : ℕ → List ℕ → Type 0
-Apart a l = All (λ b. a ≡ b → ⊥) l
+Apart a l = AllByRecursion (λ b. a ≡ b → ⊥) l
 
 apart_push : (a m : ℕ) (l : List ℕ) → Apart a l → (a ≡ m → ⊥) → Apart a (l ++ m ∷ [])
 apart_push a m [] f n = (n, tt)
 apart_push a m (x ∷ l) f n = (f.0, apart_push a m l f.1 n)
 
-seats_push : (m : ℕ) (l : List ℕ) → Seats l → All (λ i. i < m) l → 1 ≤ m → m ≤ 32 → Seats (l ++ m ∷ [])
+seats_push : (m : ℕ) (l : List ℕ) → Seats l → AllByRecursion (λ i. i < m) l → 1 ≤ m → m ≤ 32 → Seats (l ++ m ∷ [])
 seats_push m [] s a lo hi = (lo, hi, tt, tt)
 seats_push m (x ∷ l) s a lo hi = (s.0, s.1, apart_push x m l s.2 (λ (e : x ≡ m). omega (arith, a.0)), seats_push m l s.3 a.1 lo hi)
 
@@ -99,12 +99,12 @@ those_in (suc n) P i lo hi e =
       | inr r ↦ in_left i (those n P) _ (those_in n P i lo (omega arith) e)
     ]
 
-pub those_all : (n : ℕ) (P : ℕ → Bool) → All (λ i. P i ≡ true) (those n P)
+pub those_all : (n : ℕ) (P : ℕ → Bool) → AllByRecursion (λ i. P i ≡ true) (those n P)
 unfolding those
 those_all zero P = tt
 those_all (suc n) P = All-append (λ i. P i ≡ true) (those n P) (cond (P (suc n)) (suc n ∷ []) []) (those_all n P) (go (P (suc n)) refl)
   where
-    go : (b : Bool) → P (suc n) ≡ b → All (λ i. P i ≡ true) (cond b (suc n ∷ []) [])
+    go : (b : Bool) → P (suc n) ≡ b → AllByRecursion (λ i. P i ≡ true) (cond b (suc n ∷ []) [])
     go true e = (e, tt)
     go false e = tt
 

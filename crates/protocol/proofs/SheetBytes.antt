@@ -1,6 +1,6 @@
 -- The bytes of passing sheets pass the tests of recovery, and are read as these sheets.
 use Rattle.std.proofs.Common.{◌≡◌, ℕ, zero, suc, ◌+◌, ◌*◌, ◌/◌, ◌^◌, ◌<◌, ◌≤◌, Bool, true, false, cond, eqb, leb, List, [], ◌∷◌, ◌++◌, map, length, get_or, Some, None, sym, refl, ap, ◌∙◌, subst, ap₂, append_assoc, append-nil, mul-le-mul, arith, length-append, get_or-append-add}
-use Rattle.std.specs.List.{AllByRecursion as All}
+use Rattle.std.specs.List.{AllByRecursion}
 use Rattle.std.proofs.lemmas.Bool.{and_parts, and_from, or_from, eqb-true, eq-eqb, ne_eqb, le-leb, lt-ltb, not_from_false}
 use Rattle.group.specs.declared.fault.GroupFault.TheVariants.{NoCandidate}
 use Rattle.group.specs.Code.{code, code_at}
@@ -67,7 +67,7 @@ pub record SheetSmall (m : Meaning) (s : Sheet) : Type 0 where
   pub label : length s.label ≡ 16
   pub seat : s.seat < 256
   pub many : length s.shares ≤ 32
-  pub shares : All (λ p. (p.0 < 256 ^ m.s) × (p.1 < 256 ^ m.s)) s.shares
+  pub shares : AllByRecursion (λ p. (p.0 < 256 ^ m.s) × (p.1 < 256 ^ m.s)) s.shares
 
 pub shares_length : (m : Meaning) (b : Board) (j : ℕ) (is : List ℕ) (ps : List (ℕ × ℕ)) → shares_pass m b j is ps ≡ true → length ps ≡ length is
 unfolding shares_pass
@@ -76,7 +76,7 @@ shares_length m b j [] (p ∷ ps) e = clash false e refl
 shares_length m b j (i ∷ is) [] e = clash false e refl
 shares_length m b j (i ∷ is) (p ∷ ps) e = ap suc (shares_length m b j is ps (passing_head m b j i p is ps e).1)
 
-pub shares_below : (m : Meaning) (b : Board) (j : ℕ) (is : List ℕ) (ps : List (ℕ × ℕ)) → shares_pass m b j is ps ≡ true → All (Share m.q) ps
+pub shares_below : (m : Meaning) (b : Board) (j : ℕ) (is : List ℕ) (ps : List (ℕ × ℕ)) → shares_pass m b j is ps ≡ true → AllByRecursion (Share m.q) ps
 unfolding shares_pass
 shares_below m b j [] [] e = tt
 shares_below m b j [] (p ∷ ps) e = clash false e refl
@@ -94,7 +94,7 @@ equations_none m b j (i ∷ is) (p ∷ ps) place e =
 
 -- the scalar codes of pairs below q
 pairs_none : (m : Meaning) (bytes : List ℕ) (p count : ℕ)
-    → All (Share m.q) (decoded_from (λ place. (code_at bytes m.s place, code_at bytes m.s (place + m.s))) (2 * m.s) p count)
+    → AllByRecursion (Share m.q) (decoded_from (λ place. (code_at bytes m.s place, code_at bytes m.s (place + m.s))) (2 * m.s) p count)
     → refused_from (scalar_refused m bytes) m.s p (2 * count) ≡ None
 unfolding refused_from decoded_from
 pairs_none m bytes p zero a = ap (refused_from (scalar_refused m bytes) m.s p) {x = 2 * 0} {y = 0} refl
@@ -162,7 +162,7 @@ module _ (m : Meaning) (laws : Lawful m) (b : Board) (few : length (dealers m b)
                 (
                   unless_none _ _ (not_from_false _ (ap (λ (x : ℕ). among x earlier) seat ∙ new)),
                   (
-                    ap (mapped _) (pairs_none m bytes (length before + 21) dealt (subst (All (Share m.q)) (sym shares) (shares_below m b s.seat (dealers m b) s.shares S.shares))),
+                    ap (mapped _) (pairs_none m bytes (length before + 21) dealt (subst (AllByRecursion (Share m.q)) (sym shares) (shares_below m b s.seat (dealers m b) s.shares S.shares))),
                     (
                       equations_none m b _ (dealers m b) _ (length before + 21) (ap₂ (λ (x : ℕ) (y : List (ℕ × ℕ)). shares_pass m b x (dealers m b) y) seat shares ∙ S.shares),
                       (unless_none _ _ (ap (λ (x : List ℕ). same_bytes x b.label) label ∙ S.label), tt),
@@ -178,12 +178,12 @@ module _ (m : Meaning) (laws : Lawful m) (b : Board) (few : length (dealers m b)
   unfolding among
   among_new x s earlier n e = or_from _ _ (ne_eqb x s (λ (z : x ≡ s). n (sym z))) e
 
-  all_new : (s : ℕ) (earlier : List ℕ) (sheets : List Sheet) → Apart s (map (λ x. x.seat) sheets) → All (λ x. among x.seat earlier ≡ false) sheets → All (λ x. among x.seat (s ∷ earlier) ≡ false) sheets
+  all_new : (s : ℕ) (earlier : List ℕ) (sheets : List Sheet) → Apart s (map (λ x. x.seat) sheets) → AllByRecursion (λ x. among x.seat earlier ≡ false) sheets → AllByRecursion (λ x. among x.seat (s ∷ earlier) ≡ false) sheets
   all_new s earlier [] a e = tt
   all_new s earlier (x ∷ sheets) a e = (among_new x.seat s earlier a.0 e.0, all_new s earlier sheets a.1 e.1)
 
-  pub sheets_none : (sheets : List Sheet) (before earlier bytes : List ℕ) → All (Sound m b) sheets → All (SheetReads m) sheets → Seats (map (λ s. s.seat) sheets)
-      → All (λ s. among s.seat earlier ≡ false) sheets → bytes ≡ before ++ sheets_written m sheets
+  pub sheets_none : (sheets : List Sheet) (before earlier bytes : List ℕ) → AllByRecursion (Sound m b) sheets → AllByRecursion (SheetReads m) sheets → Seats (map (λ s. s.seat) sheets)
+      → AllByRecursion (λ s. among s.seat earlier ≡ false) sheets → bytes ≡ before ++ sheets_written m sheets
       → (sheets_fault m b bytes earlier (length sheets) (length before) ≡ None) × (sheets_in m dealt bytes (length sheets) (length before) ≡ sheets)
   unfolding sheets_fault sheets_in sheets_written
   sheets_none [] before earlier bytes S R d n e =

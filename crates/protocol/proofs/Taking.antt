@@ -1,6 +1,6 @@
 -- What the tests of a taken record, and of an opening, imply.
 use Rattle.std.proofs.Common.{◌≡◌, ℕ, ◌+◌, ◌*◌, ◌<◌, ◌≤◌, true, not, ◌&&◌, eqb, leb, List, length, Some, None, Option, sym, refl, ap, ◌∙◌, subst, inl, inr, arith, length-drop, length-take}
-use Rattle.std.specs.List.{AllByRecursion as All}
+use Rattle.std.specs.List.{AllByRecursion}
 use Rattle.std.proofs.lemmas.Bool.{and_parts, or_cases, eqb-true, leb-true, ltb-true, eq-eqb, not-true}
 use Rattle.group.specs.Meaning.{Meaning}
 use Rattle.protocol.specs.declared.kind.Kind.{Kind}
@@ -14,7 +14,7 @@ use Rattle.protocol.proofs.Faults.{passed, unless_true}
 use Rattle.protocol.proofs.Entries.{Middle, kind_number_lem}
 
 abbrev pub Silent : Meaning → Board → List ℕ → Kind → Type 0
-Silent m b bytes kind = All (λ f. f ≡ None) (tests_of m b bytes kind)
+Silent m b bytes kind = AllByRecursion (λ f. f ≡ None) (tests_of m b bytes kind)
 
 -- a taken record: its kind, and no test says anything
 pub record Took (m : Meaning) (b : Board) (bytes : List ℕ) : Type 0 where
@@ -27,7 +27,7 @@ pub took : (m : Meaning) (b : Board) (bytes : List ℕ) → posting_fault m b by
 unfolding posting_fault
 took m b bytes e = go (kind_with (kind_field bytes)) refl (passed _ e).1.1
   where
-    go : (o : Option Kind) → kind_with (kind_field bytes) ≡ o → All (λ f. f ≡ None) (tests_for m b bytes o) → Took m b bytes
+    go : (o : Option Kind) → kind_with (kind_field bytes) ≡ o → AllByRecursion (λ f. f ≡ None) (tests_for m b bytes o) → Took m b bytes
     go None q a = none_some _ (sym a.0)
     go (Some kind) q a = record { kind = kind; named = q; number = kind_number_lem (kind_field bytes) kind q; silent = a }
 

@@ -1,6 +1,6 @@
 -- A refusal for want of Reveals: the last phase, and not all is revealed.
 use Rattle.std.proofs.Common.{◌≡◌, ℕ, Bool, true, false, not, ◌||◌, eqb, ◌⊎◌, List, [], ◌∷◌, Some, None, Option, sym, refl, ap, ◌∙◌, inl, inr}
-use Rattle.std.specs.List.{AllByRecursion as All}
+use Rattle.std.specs.List.{AllByRecursion}
 use Rattle.std.proofs.lemmas.Bool.{or_parts, eqb-true, not-false}
 use Rattle.group.specs.declared.fault.GroupFault.{GroupFault}
 use Rattle.group.specs.Meaning.{Meaning}
@@ -32,7 +32,7 @@ wanting None = false
 wanting (Some f) = wants f
 
 abbrev Quiet : List (Option CeremonyFault) → Type 0
-Quiet tests = All (λ f. wanting f ≡ false) tests
+Quiet tests = AllByRecursion (λ f. wanting f ≡ false) tests
 
 either_quiet : (a b : Option CeremonyFault) → wanting a ≡ false → wanting b ≡ false → wanting (or_else a b) ≡ false
 unfolding wanting

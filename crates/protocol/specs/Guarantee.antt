@@ -1,6 +1,6 @@
 -- The guarantee, for every group with the laws and every history. Definitions.
 use Rattle.std.specs.Prelude.{◌≡◌, ℕ, ◌+◌, ◌*◌, ◌<◌, ◌≤◌, Bool, true, ◌⊎◌, List, [], ◌∷◌, ◌++◌, map, length, is_some, Some, None, slice_index}
-use Rattle.std.specs.List.{AllByRecursion as All}
+use Rattle.std.specs.List.{AllByRecursion}
 use Rattle.group.specs.Monoid.{power}
 use Rattle.group.specs.Meaning.{Meaning, Lawful, products}
 use Rattle.sharing.specs.Commitment.{commitment}
@@ -77,7 +77,7 @@ pub record Opened (m : Meaning) (b : Board) (bytes : List ℕ) : Type 0 where
 abbrev pub Recoverable : Meaning → Board → Type 0
 Recoverable m b =
     phase_of m b ≡ Finished → (sheets : List Sheet) → length sheets ≡ b.t + 1
-    → All (λ s. sheet_passes m b s ≡ true) sheets → Seats (map (λ s. s.seat) sheets)
+    → AllByRecursion (λ s. sheet_passes m b s ≡ true) sheets → Seats (map (λ s. s.seat) sheets)
     → (scratch : ℕ) → 2 * (b.t + 1) * m.s ≤ scratch
     → (recovery_fault m b scratch (sheets_written m sheets) ≡ None)
     × ((Agree m b sheets × Found m b (sheets_written m sheets)) ⊎ ((Agree m b sheets → ⊥) × Opened m b (sheets_written m sheets)))

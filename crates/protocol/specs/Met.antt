@@ -1,6 +1,6 @@
 -- The hypotheses of the guarantee are met, and both answers of recovery occur. Definitions.
 use Rattle.std.specs.Prelude.{◌≡◌, ℕ, ◌+◌, Bool, true, List, map, length}
-use Rattle.std.specs.List.{AllByRecursion as All}
+use Rattle.std.specs.List.{AllByRecursion}
 use Rattle.group.specs.Meaning.{Meaning, Lawful}
 use Rattle.sharing.specs.Interpolation.{Seats}
 use Rattle.protocol.specs.declared.phase.Phase.TheVariants.{Finished}
@@ -14,7 +14,7 @@ use Rattle.protocol.specs.Guarantee.{Trusted, sheets_written}
 -- t + 1 passing sheets of different seats
 pub record Enough (m : Meaning) (b : Board) (sheets : List Sheet) : Type 0 where
   pub many : length sheets ≡ b.t + 1
-  pub passing : All (λ s. sheet_passes m b s ≡ true) sheets
+  pub passing : AllByRecursion (λ s. sheet_passes m b s ≡ true) sheets
   pub different : Seats (map (λ s. s.seat) sheets)
 
 -- a lawful group and a finished history with a trusted set and a contested dealer; sheets that give the logarithm, and sheets that give two openings

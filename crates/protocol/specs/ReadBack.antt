@@ -1,6 +1,6 @@
 -- Reading what was written gives it back. Definitions.
 use Rattle.std.specs.Prelude.{◌≡◌, ℕ, ◌+◌, ◌*◌, ◌^◌, ◌<◌, ◌≤◌, true, List, [], ◌++◌, length, Some}
-use Rattle.std.specs.List.{AllByRecursion as All}
+use Rattle.std.specs.List.{AllByRecursion}
 use Rattle.group.specs.Meaning.{Meaning, Lawful}
 use Rattle.protocol.specs.declared.kind.Kind.TheVariants as kinds
 use Rattle.protocol.specs.Record.{Posted, kind_with, kind_field, length_field, Layout, Elements, Second, SecondAndShare, Nothing, layout_of, length_of, read_record, write_record}
@@ -9,13 +9,13 @@ use Rattle.protocol.specs.Custodian.{Letter, write_letter, read_letter, Sheet, w
 use Rattle.protocol.specs.Recovery.{sheet_at, sheet_size}
 
 abbrev pub Bytes : List ℕ → Type 0
-Bytes l = All (λ byte. byte < 256) l
+Bytes l = AllByRecursion (λ byte. byte < 256) l
 
 -- what fits the bytes of a record of its kind, where t + 1 elements make a Deal
 abbrev pub FitsAs : Meaning → ℕ → Layout → Posted → Type 0
-FitsAs m t Elements r = (r.second ≡ 0) × (length r.codes ≡ t + 1) × All (λ n. n < 256 ^ m.w) r.codes
+FitsAs m t Elements r = (r.second ≡ 0) × (length r.codes ≡ t + 1) × AllByRecursion (λ n. n < 256 ^ m.w) r.codes
 FitsAs m t Second r = (r.second < 256) × (r.codes ≡ [])
-FitsAs m t SecondAndShare r = (r.second < 256) × (length r.codes ≡ 2) × All (λ n. n < 256 ^ m.s) r.codes
+FitsAs m t SecondAndShare r = (r.second < 256) × (length r.codes ≡ 2) × AllByRecursion (λ n. n < 256 ^ m.s) r.codes
 FitsAs m t Nothing r = (r.second ≡ 0) × (r.codes ≡ [])
 
 abbrev pub Fits : Meaning → ℕ → Posted → Type 0
@@ -54,7 +54,7 @@ pub record SheetFits (m : Meaning) (s : Sheet) : Type 0 where
   pub label : (length s.label ≡ 16) × Bytes s.label
   pub seat : s.seat < 256
   pub many : length s.shares ≤ 32
-  pub shares : All (λ share. (share.0 < 256 ^ m.s) × (share.1 < 256 ^ m.s)) s.shares
+  pub shares : AllByRecursion (λ share. (share.0 < 256 ^ m.s) × (share.1 < 256 ^ m.s)) s.shares
 
 -- a sheet between other bytes
 abbrev pub SheetsReadBack : Type 0

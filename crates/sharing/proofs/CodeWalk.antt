@@ -1,6 +1,6 @@
 -- One code more of codes that stand one after another.
 use Rattle.std.proofs.Common.{◌≡◌, ℕ, zero, suc, ◌+◌, ◌-◌, ◌*◌, ◌<◌, ◌≤◌, Bool, true, [], ◌∷◌, Some, None, Err, Option, Result, sym, refl, ap, ◌∙◌, subst, ap₂, mul-le-mul_right, suc-mul, zero-mul, arith}
-use Rattle.std.specs.List.{AllByRecursion as All}
+use Rattle.std.specs.List.{AllByRecursion}
 use Rattle.group.specs.declared.fault.GroupFault.{GroupFault}
 use Rattle.sharing.specs.Codes.{first_of, decoded_from, refused_from, Judges}
 use Rattle.sharing.specs.LinearLaws.{first_none}
@@ -74,7 +74,7 @@ module _ {V : Type 0} (decoded : ℕ → V) (w : ℕ) where
   decoded_none p left e = ap (decoded_from decoded w p) e
 
   pub decoded_members : (member : V → Bool) (refusal : ℕ → Option GroupFault) → ((at : ℕ) → refusal at ≡ None → member (decoded at) ≡ true)
-      → (p count : ℕ) → refused_from refusal w p count ≡ None → All (λ v. member v ≡ true) (decoded_from decoded w p count)
+      → (p count : ℕ) → refused_from refusal w p count ≡ None → AllByRecursion (λ v. member v ≡ true) (decoded_from decoded w p count)
   unfolding decoded_from refused_from
   decoded_members member refusal judged p zero e = tt
   decoded_members member refusal judged p (suc count) e =

@@ -1,7 +1,7 @@
 -- Horner's rule gives the sum of j^k·v_k.
 use Rattle.std.proofs.Common.{◌≡◌, ℕ, suc, ◌%◌, ◌^◌, Bool, true, List, [], ◌∷◌, sym, refl, ap, ◌∙◌, ap₂, pow-suc}
 use native.Mathlib.Nat.{pow-zero}
-use Rattle.std.specs.List.{AllByRecursion as All}
+use Rattle.std.specs.List.{AllByRecursion}
 use Rattle.group.specs.Monoid.{Monoid, Commutative}
 use Rattle.group.specs.PowerLaws.{power_member, power_mul, power_mod, power_one, power_op, power_unit}
 use Rattle.sharing.specs.Linear.{scaled, Exponent}
@@ -12,21 +12,21 @@ unfolding sum_from
 value_none sum j = refl
 
 module _ {V : Type 0} {member : V → Bool} {sum : Monoid V} (laws : Commutative member sum) where
-  pub sum_member : (vs : List V) (j k : ℕ) → All (λ v. member v ≡ true) vs → member (sum_from sum vs j k) ≡ true
+  pub sum_member : (vs : List V) (j k : ℕ) → AllByRecursion (λ v. member v ≡ true) vs → member (sum_from sum vs j k) ≡ true
   unfolding sum_from
   sum_member [] j k h = laws.unit_member
   sum_member (v ∷ vs) j k h =
       laws.closed (scaled sum (j ^ k) v) (sum_from sum vs j (suc k)) (power_member laws v (j ^ k) h.0) (sum_member vs j (suc k) h.1)
 
   -- a factor j raises each power by one
-  factor : (vs : List V) (j k : ℕ) → All (λ v. member v ≡ true) vs → scaled sum j (sum_from sum vs j k) ≡ sum_from sum vs j (suc k)
+  factor : (vs : List V) (j k : ℕ) → AllByRecursion (λ v. member v ≡ true) vs → scaled sum j (sum_from sum vs j k) ≡ sum_from sum vs j (suc k)
   unfolding sum_from
   factor [] j k h = power_unit laws j
   factor (v ∷ vs) j k h =
       power_op laws (scaled sum (j ^ k) v) (sum_from sum vs j (suc k)) j (power_member laws v (j ^ k) h.0) (sum_member vs j (suc k) h.1)
       ∙ ap₂ sum.op (sym (power_mul laws v (j ^ k) j h.0) ∙ ap (λ (e : ℕ). scaled sum e v) (sym (pow-suc j k))) (factor vs j (suc k) h.1)
 
-  pub horner : (v : V) (vs : List V) (j : ℕ) → member v ≡ true → All (λ v. member v ≡ true) vs
+  pub horner : (v : V) (vs : List V) (j : ℕ) → member v ≡ true → AllByRecursion (λ v. member v ≡ true) vs
       → sum.op v (scaled sum j (value_at sum vs j)) ≡ value_at sum (v ∷ vs) j
   unfolding sum_from
   horner v vs j hv h =

@@ -1,7 +1,7 @@
 -- One seat more of a list of seats, taken from its end.
 use Rattle.std.proofs.Common.{◌≡◌, ℕ, zero, suc, ◌+◌, ◌-◌, ◌*◌, ◌%◌, ◌<◌, ◌≤◌, List, [], ◌∷◌, length, get_or, drop, sym, refl, ap, ◌∙◌, subst, arith, drop-cons}
 use lib.Seq.{drop-length}
-use Rattle.std.specs.List.{AllByRecursion as All}
+use Rattle.std.specs.List.{AllByRecursion}
 use Rattle.sharing.specs.Linear.{scaled}
 use Rattle.sharing.specs.Interpolation.{Seats, factor, weight, weighted, seats_of, entries_from}
 use Rattle.group.specs.Monoid.{Monoid}
@@ -19,20 +19,20 @@ from_before seats k pos h =
 
 -- What holds of each seat from an index on.
 
-pub all_none : (P : ℕ → Type 0) (seats : List ℕ) → All P (drop (length seats) seats)
-all_none P seats = subst (All P) (sym (drop-length seats)) tt
+pub all_none : (P : ℕ → Type 0) (seats : List ℕ) → AllByRecursion P (drop (length seats) seats)
+all_none P seats = subst (AllByRecursion P) (sym (drop-length seats)) tt
 
-pub all_before : (P : ℕ → Type 0) (seats : List ℕ) (k : ℕ) → 0 < k → k ≤ length seats → P (get_or seats (k - 1) 0) → All P (drop k seats) → All P (drop (k - 1) seats)
-all_before P seats k pos h here later = subst (All P) (sym (from_before seats k pos h)) (here, later)
+pub all_before : (P : ℕ → Type 0) (seats : List ℕ) (k : ℕ) → 0 < k → k ≤ length seats → P (get_or seats (k - 1) 0) → AllByRecursion P (drop k seats) → AllByRecursion P (drop (k - 1) seats)
+all_before P seats k pos h here later = subst (AllByRecursion P) (sym (from_before seats k pos h)) (here, later)
 
-pub all_at : (P : ℕ → Type 0) (seats : List ℕ) (start k : ℕ) → start ≤ k → k < length seats → All P (drop start seats) → P (get_or seats k 0)
+pub all_at : (P : ℕ → Type 0) (seats : List ℕ) (start k : ℕ) → start ≤ k → k < length seats → AllByRecursion P (drop start seats) → P (get_or seats k 0)
 all_at P [] start k from h all = absurd (omega arith)
 all_at P (m ∷ ms) zero zero from h all = all.0
 all_at P (m ∷ ms) zero (suc k) from h all = all_at P ms zero k (omega arith) (omega arith) all.1
 all_at P (m ∷ ms) (suc start) zero from h all = absurd (omega arith)
 all_at P (m ∷ ms) (suc start) (suc k) from h all = all_at P ms start k (omega arith) (omega arith) all
 
-pub all_later : (P : ℕ → Type 0) (seats : List ℕ) (k start : ℕ) → k ≤ start → All P (drop k seats) → All P (drop start seats)
+pub all_later : (P : ℕ → Type 0) (seats : List ℕ) (k start : ℕ) → k ≤ start → AllByRecursion P (drop k seats) → AllByRecursion P (drop start seats)
 all_later P [] k zero h all = tt
 all_later P [] k (suc start) h all = tt
 all_later P (m ∷ ms) zero zero h all = all
@@ -44,13 +44,13 @@ pub seats_none : (seats : List ℕ) → Seats (drop (length seats) seats)
 seats_none seats = subst Seats (sym (drop-length seats)) tt
 
 pub seats_before : (seats : List ℕ) (k : ℕ) → 0 < k → k ≤ length seats
-    → 1 ≤ get_or seats (k - 1) 0 → get_or seats (k - 1) 0 ≤ 32 → All (λ l. get_or seats (k - 1) 0 ≡ l → ⊥) (drop k seats) → Seats (drop k seats)
+    → 1 ≤ get_or seats (k - 1) 0 → get_or seats (k - 1) 0 ≤ 32 → AllByRecursion (λ l. get_or seats (k - 1) 0 ≡ l → ⊥) (drop k seats) → Seats (drop k seats)
     → Seats (drop (k - 1) seats)
 seats_before seats k pos h low high differ later = subst Seats (sym (from_before seats k pos h)) (low, high, differ, later)
 
 -- what different seats say of the one before the index k
 pub seats_at : (seats : List ℕ) (k : ℕ) → 0 < k → k ≤ length seats → Seats seats
-    → (1 ≤ get_or seats (k - 1) 0) × (get_or seats (k - 1) 0 ≤ 32) × All (λ l. get_or seats (k - 1) 0 ≡ l → ⊥) (drop k seats)
+    → (1 ≤ get_or seats (k - 1) 0) × (get_or seats (k - 1) 0 ≤ 32) × AllByRecursion (λ l. get_or seats (k - 1) 0 ≡ l → ⊥) (drop k seats)
 seats_at seats k pos h all =
     let here = subst Seats (from_before seats k pos h) (seats_drop (k - 1) seats all) in
     (here.0, here.1, here.2)

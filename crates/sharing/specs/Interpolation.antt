@@ -1,6 +1,6 @@
 -- Interpolation at zero from the values at different seats, and what is proved of it. Definitions.
 use Rattle.std.specs.Prelude.{◌≡◌, ℕ, zero, suc, ◌+◌, ◌-◌, ◌*◌, ◌%◌, ◌<◌, ◌≤◌, Bool, true, false, cond, List, [], ◌∷◌, length, ◌==◌, ◌≢◌, nat_eq}
-use Rattle.std.specs.List.{AllByRecursion as All}
+use Rattle.std.specs.List.{AllByRecursion}
 use Rattle.group.specs.Monoid.{Monoid, power}
 use Rattle.group.specs.Meaning.{Meaning, Lawful, products}
 use Rattle.sharing.specs.Linear.{scaled, scalar_sum, pair_sum}
@@ -49,7 +49,7 @@ entries_from decoded width at (m ∷ ms) = (m, decoded at) ∷ entries_from deco
 -- different seats from 1 to 32
 abbrev pub Seats : List ℕ → Type 0
 Seats [] = Unit {0}
-Seats (m ∷ ms) = (1 ≤ m) × (m ≤ 32) × All (λ l. m ≢ l) ms × Seats ms
+Seats (m ∷ ms) = (1 ≤ m) × (m ≤ 32) × AllByRecursion (λ l. m ≢ l) ms × Seats ms
 
 -- the values at some seats of the polynomial with these coefficients
 unfoldable pub values_at : {V : Type 0} → Monoid V → List V → List ℕ → List (ℕ × V)
@@ -61,7 +61,7 @@ values_at sum vs (m ∷ ms) = (m, value_at sum vs m) ∷ values_at sum vs ms
 -- the values of t + 1 coefficients at t + 1 different seats interpolate to the first coefficient
 abbrev pub Interpolates : {V : Type 0} → ℕ → (V → Bool) → Monoid V → Type 0
 Interpolates {V} q member sum =
-    (seats : List ℕ) → Seats seats → (v : V) (vs : List V) → All (λ x. member x ≡ true) (v ∷ vs) → length (v ∷ vs) ≡ length seats
+    (seats : List ℕ) → Seats seats → (v : V) (vs : List V) → AllByRecursion (λ x. member x ≡ true) (v ∷ vs) → length (v ∷ vs) ≡ length seats
     → interpolated sum q (values_at sum (v ∷ vs) seats) ≡ v
 
 abbrev pub Share : ℕ → ℕ × ℕ → Type 0
@@ -71,16 +71,16 @@ Share q share = (share.0 < q) × (share.1 < q)
 abbrev pub OpeningsInterpolate : Type 0
 OpeningsInterpolate =
     (m : Meaning) → Lawful m → (entries : List (ℕ × (ℕ × ℕ))) → Seats (seats_of entries)
-    → (c : ℕ) (cs : List ℕ) → All (λ u. m.member u ≡ true) (c ∷ cs) → length (c ∷ cs) ≡ length entries
-    → All (λ e. Share m.q e.1 × (commitment m e.1 ≡ value_at (products m) (c ∷ cs) e.0)) entries
+    → (c : ℕ) (cs : List ℕ) → AllByRecursion (λ u. m.member u ≡ true) (c ∷ cs) → length (c ∷ cs) ≡ length entries
+    → AllByRecursion (λ e. Share m.q e.1 × (commitment m e.1 ≡ value_at (products m) (c ∷ cs) e.0)) entries
     → commitment m (interpolated (pair_sum (scalar_sum m.q) (scalar_sum m.q)) m.q entries) ≡ c
 
 -- logarithms of the values of A_0 .. A_t at the seats interpolate to a logarithm of A_0
 abbrev pub LogarithmsInterpolate : Type 0
 LogarithmsInterpolate =
     (m : Meaning) → Lawful m → (entries : List (ℕ × ℕ)) → Seats (seats_of entries)
-    → (a : ℕ) (later : List ℕ) → All (λ u. m.member u ≡ true) (a ∷ later) → length (a ∷ later) ≡ length entries
-    → All (λ e. (e.1 < m.q) × (power (products m) m.g e.1 ≡ value_at (products m) (a ∷ later) e.0)) entries
+    → (a : ℕ) (later : List ℕ) → AllByRecursion (λ u. m.member u ≡ true) (a ∷ later) → length (a ∷ later) ≡ length entries
+    → AllByRecursion (λ e. (e.1 < m.q) × (power (products m) m.g e.1 ≡ value_at (products m) (a ∷ later) e.0)) entries
     → power (products m) m.g (interpolated (scalar_sum m.q) m.q entries) ≡ a
 
 -- logarithms to the base g are unique below q

@@ -1,6 +1,6 @@
 -- Maps that keep sums keep multiples, values and weighted sums.
 use Rattle.std.proofs.Common.{◌≡◌, ℕ, zero, suc, ◌^◌, List, [], ◌∷◌, map, ap, ◌∙◌, ap₂}
-use Rattle.std.specs.List.{AllByRecursion as All}
+use Rattle.std.specs.List.{AllByRecursion}
 use Rattle.group.specs.Monoid.{Monoid, power}
 use Rattle.sharing.specs.Linear.{scaled}
 use Rattle.sharing.specs.Value.{sum_from}
@@ -24,7 +24,7 @@ module _ {V W : Type 0} {a : Monoid V} {b : Monoid W} {f : V → W} (hom : Homom
   on_sum (v ∷ vs) j k = hom.on_op (scaled a (j ^ k) v) (sum_from a vs j (suc k)) ∙ ap₂ b.op (on_scaled (j ^ k) v) (on_sum vs j (suc k))
 
   -- where f takes each entry to the value of g at its seat, it takes their weighted sum to that of g's values
-  pub on_weighted : (g : ℕ → W) (w : ℕ → ℕ) (es : List (ℕ × V)) → All (λ e. f e.1 ≡ g e.0) es → f (weighted a w es) ≡ weighted b w (sampled g (seats_of es))
+  pub on_weighted : (g : ℕ → W) (w : ℕ → ℕ) (es : List (ℕ × V)) → AllByRecursion (λ e. f e.1 ≡ g e.0) es → f (weighted a w es) ≡ weighted b w (sampled g (seats_of es))
   unfolding weighted sampled
   on_weighted g w [] h = hom.on_unit
   on_weighted g w (e ∷ es) h =

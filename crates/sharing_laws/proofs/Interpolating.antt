@@ -1,6 +1,6 @@
 -- The values at different seats interpolate to the first coefficient; and what maps take the interpolation to.
 use Rattle.std.proofs.Common.{◌≡◌, ℕ, ◌<◌, Bool, true, List, ◌∷◌, length, sym, ap, ◌∙◌}
-use Rattle.std.specs.List.{AllByRecursion as All}
+use Rattle.std.specs.List.{AllByRecursion}
 use Rattle.group.specs.Monoid.{Monoid, Commutative}
 use Rattle.group.specs.Meaning.{Prime}
 use Rattle.sharing.specs.Linear.{Exponent}
@@ -41,8 +41,8 @@ interpolates {V} member sum laws q above prime exponent seats different v vs h l
 
 -- a map that keeps sums, and takes entries to the values of c ∷ cs at their seats, takes the interpolated entry to c
 pub interpolation_kept : {V W : Type 0} {a : Monoid V} {b : Monoid W} {f : V → W} → Homomorphism a b f → (q : ℕ) (member : W → Bool) → Interpolates q member b
-    → (entries : List (ℕ × V)) → Seats (seats_of entries) → (c : W) (cs : List W) → All (λ u. member u ≡ true) (c ∷ cs) → length (c ∷ cs) ≡ length entries
-    → All (λ e. f e.1 ≡ value_at b (c ∷ cs) e.0) entries → f (interpolated a q entries) ≡ c
+    → (entries : List (ℕ × V)) → Seats (seats_of entries) → (c : W) (cs : List W) → AllByRecursion (λ u. member u ≡ true) (c ∷ cs) → length (c ∷ cs) ≡ length entries
+    → AllByRecursion (λ e. f e.1 ≡ value_at b (c ∷ cs) e.0) entries → f (interpolated a q entries) ≡ c
 interpolation_kept {a = a} {b = b} hom q member interpolates entries different c cs h len opened =
     on_weighted hom (value_at b (c ∷ cs)) (weight q (seats_of entries)) entries opened
     ∙ sym (interpolated_over b q (c ∷ cs) (seats_of entries))

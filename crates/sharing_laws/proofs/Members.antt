@@ -2,7 +2,7 @@
 use Rattle.std.proofs.Common.{◌≡◌, ℕ, suc, Bool, true, List, [], ◌∷◌, map, length, refl, ap, ◌∙◌}
 use mathlib.Core.Bool.{Bool-set}
 use mathlib.Core.HLevel.{Σ_prop_path}
-use Rattle.std.specs.List.{AllByRecursion as All}
+use Rattle.std.specs.List.{AllByRecursion}
 use Rattle.group.specs.Monoid.{Monoid, Commutative}
 use Rattle.sharing.specs.Linear.{Exponent}
 use Rattle.sharing_laws.proofs.Homomorphisms.{Homomorphism, on_scaled}
@@ -34,16 +34,16 @@ module _ {V : Type 0} (member : V → Bool) (sum : Monoid V) (laws : Commutative
   within_exponent q exponent u _ = same_member member (on_scaled within_value q u ∙ exponent u.0 u.1)
 
 -- a list of members, and its values
-unfoldable pub members : {V : Type 0} (member : V → Bool) (vs : List V) → All (λ v. member v ≡ true) vs → List (Member member)
+unfoldable pub members : {V : Type 0} (member : V → Bool) (vs : List V) → AllByRecursion (λ v. member v ≡ true) vs → List (Member member)
 members member [] h = []
 members member (v ∷ vs) h = (v, h.0) ∷ members member vs h.1
 
-pub members_length : {V : Type 0} (member : V → Bool) (vs : List V) (h : All (λ v. member v ≡ true) vs) → length (members member vs h) ≡ length vs
+pub members_length : {V : Type 0} (member : V → Bool) (vs : List V) (h : AllByRecursion (λ v. member v ≡ true) vs) → length (members member vs h) ≡ length vs
 unfolding members
 members_length member [] h = refl
 members_length member (v ∷ vs) h = ap suc (members_length member vs h.1)
 
-pub members_values : {V : Type 0} (member : V → Bool) (vs : List V) (h : All (λ v. member v ≡ true) vs) → map (λ u. u.0) (members member vs h) ≡ vs
+pub members_values : {V : Type 0} (member : V → Bool) (vs : List V) (h : AllByRecursion (λ v. member v ≡ true) vs) → map (λ u. u.0) (members member vs h) ≡ vs
 unfolding members
 members_values member [] h = refl
 members_values {V} member (v ∷ vs) h = ap (λ (us : List V). v ∷ us) (members_values member vs h.1)

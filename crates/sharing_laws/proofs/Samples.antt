@@ -1,6 +1,6 @@
 -- The values of a function at some seats, as entries; values of a polynomial are such entries.
 use Rattle.std.proofs.Common.{◌≡◌, ℕ, suc, List, [], ◌∷◌, length, refl, ap}
-use Rattle.std.specs.List.{AllByRecursion as All}
+use Rattle.std.specs.List.{AllByRecursion}
 use Rattle.group.specs.Monoid.{Monoid}
 use Rattle.sharing.specs.Value.{value_at}
 use Rattle.sharing.specs.Interpolation.{seats_of, values_at}
@@ -25,7 +25,7 @@ values_sampled sum vs [] = refl
 values_sampled {V} sum vs (m ∷ ms) = ap (λ (s : List (ℕ × V)). (m, value_at sum vs m) ∷ s) (values_sampled sum vs ms)
 
 -- what holds of each value at its seat holds of each entry
-pub all_sampled : {V : Type 0} (P : ℕ × V → Type 0) (f : ℕ → V) → ((m : ℕ) → P (m, f m)) → (ms : List ℕ) → All P (sampled f ms)
+pub all_sampled : {V : Type 0} (P : ℕ × V → Type 0) (f : ℕ → V) → ((m : ℕ) → P (m, f m)) → (ms : List ℕ) → AllByRecursion P (sampled f ms)
 unfolding sampled
 all_sampled P f h [] = tt
 all_sampled P f h (m ∷ ms) = (h m, all_sampled P f h ms)

@@ -1,6 +1,6 @@
 -- Interpolation by weights, where every value is a member.
 use Rattle.std.proofs.Common.{◌≡◌, ℕ, ◌+◌, ◌*◌, ◌<◌, ◌≤◌, true, List, [], ◌∷◌, length, sym, refl, ap, ◌∙◌, ap₂, mul_comm, arith}
-use Rattle.std.specs.List.{AllByRecursion as All}
+use Rattle.std.specs.List.{AllByRecursion}
 use Rattle.group.specs.Monoid.{Monoid, Commutative}
 use Rattle.group.specs.Meaning.{Prime}
 use Rattle.group.specs.PowerLaws.{neutral_right, power_one, power_add, power_mul, power_op, power_unit, swap_middle}
@@ -22,7 +22,7 @@ unfoldable first : {V : Type 0} → Monoid V → List V → V
 first sum [] = sum.unit
 first sum (v ∷ vs) = v
 
-all_members : {V : Type 0} (vs : List V) → All (λ v. true ≡ true) vs
+all_members : {V : Type 0} (vs : List V) → AllByRecursion (λ v. true ≡ true) vs
 all_members [] = tt
 all_members (v ∷ vs) = (refl, all_members vs)
 
@@ -67,7 +67,7 @@ module _ {V : Type 0} {sum : Monoid V} (laws : Commutative (λ _. true) sum) whe
         ∙ power_mul laws x w' a refl
 
     -- of the terms of other seats t together
-    more_at_others : (a : ℕ) → a < q → (s t : List ℕ) (f : ℕ → V) → All (λ m. a ≡ m → ⊥) t → Seats t
+    more_at_others : (a : ℕ) → a < q → (s t : List ℕ) (f : ℕ → V) → AllByRecursion (λ m. a ≡ m → ⊥) t → Seats t
         → op (over sum (weight q (a ∷ s)) t (λ m. scaled sum m (f m))) (scaled sum a (over sum (weight q s) t f)) ≡ scaled sum a (over sum (weight q (a ∷ s)) t f)
     unfolding weighted sampled
     more_at_others a ha s [] f differ seats = laws.neutral (scaled sum a unit) refl
