@@ -41,16 +41,21 @@ fn check_share<G: Group>(
         return Err(Fail::new("too long a share"));
     }
     let sides = test_share::<G>(t, commitments, &share[0..size], seat)?;
-    assert_eq!(rt; sides.committed, sides.value);
+    assert_eq!(rt; sides.committed, sides.value, "t = {}, seat {}", t, seat);
     share[0] ^= 1;
     match test_share::<G>(t, commitments, &share[0..size], seat) {
         Ok(changed) => {
-            assert_ne!(rt; changed.committed, changed.value);
+            assert_ne!(rt;
+                changed.committed,
+                changed.value,
+                "t = {}, seat {}",
+                t, seat
+            );
             Ok(())
         },
         // The changed code may be that of no scalar.
         Err(fault) => {
-            assert_eq!(rt; fault.number(), 9);
+            assert_eq!(rt; fault.number(), 9, "t = {}, seat {}", t, seat);
             Ok(())
         },
     }
@@ -68,7 +73,7 @@ fn check_dealing<G: Group>(rt: &impl Abort, seat: u8, t: u8) -> Result<(), Fail>
         return Err(Fail::new("too many coefficients"));
     }
     let size = draw_up_deal::<G>(seat, t, &coefficients[0..given], &mut record)?;
-    assert_eq!(rt; size, 5 + count * G::width());
+    assert_eq!(rt; size, 5 + count * G::width(), "t = {}", t);
     check_head(rt, &record, size, seat);
     check_rest(rt, &record, size);
     if size < 5 || size > 80 {

@@ -67,6 +67,7 @@ fn write_recovered<G: Group, L: Linear<G>>(
 
 fn check_recovery<G: Group, L: Linear<G>>(
     rt: &impl Abort,
+    what: &str,
     codes: &[u8; 128],
     seats: &[u8],
 ) -> Result<(), Fail>
@@ -78,7 +79,7 @@ fn check_recovery<G: Group, L: Linear<G>>(
     write_recovered::<G, L>(&values, seats, &mut recovered)?;
     let width = L::code_width();
     for k in 0..width {
-        assert_eq!(rt; recovered[k], codes[k]);
+        assert_eq!(rt; recovered[k], codes[k], "{} at {} seats", what, seats.len());
     }
     Ok(())
 }
@@ -87,11 +88,11 @@ fn check_recovery<G: Group, L: Linear<G>>(
 fn check_seats<G: Group>(rt: &impl Abort, start: u32, seats: &[u8]) -> Result<(), Fail> {
     let mut scalars = [0; 128];
     fill_scalars::<G>(start, &mut scalars);
-    check_recovery::<G, Scalar<G, G::Scalar>>(rt, &scalars, seats)?;
-    check_recovery::<G, Share<G>>(rt, &scalars, seats)?;
+    check_recovery::<G, Scalar<G, G::Scalar>>(rt, "scalars", &scalars, seats)?;
+    check_recovery::<G, Share<G>>(rt, "pairs", &scalars, seats)?;
     let mut elements = [0; 128];
     fill_elements::<G>(start, &mut elements);
-    check_recovery::<G, Element<G, G::Element>>(rt, &elements, seats)
+    check_recovery::<G, Element<G, G::Element>>(rt, "elements", &elements, seats)
 }
 
 fn check_thresholds<G: Group>(rt: &impl Abort, start: u32, step: u32) -> Result<(), Fail> {

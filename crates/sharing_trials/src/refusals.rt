@@ -24,9 +24,14 @@ fn check_refused<G: Group, L: Linear<G>>(
 ) -> Result<(), Fail>
     requires { L.width ≤ 4 }
 {
-    assert_eq!(rt; judge_codes::<G, L>(codes, 0, 16), Err(fault));
+    assert_eq!(rt;
+        judge_codes::<G, L>(codes, 0, 16),
+        Err(fault),
+        "{}",
+        fault.place()
+    );
     if let Err(told) = evaluate::<G, L>(codes, 0, 16, 3) {
-        assert_eq!(rt; told, fault);
+        assert_eq!(rt; told, fault, "{}", fault.place());
     } else {
         return Err(Fail::new("evaluated"));
     }
@@ -35,7 +40,7 @@ fn check_refused<G: Group, L: Linear<G>>(
         return Err(Fail::new("these are not different seats"));
     }
     if let Err(told) = interpolate::<G, L>(&seats, codes, 0) {
-        assert_eq!(rt; told, fault);
+        assert_eq!(rt; told, fault, "{}", fault.place());
         Ok(())
     } else {
         Err(Fail::new("interpolated"))

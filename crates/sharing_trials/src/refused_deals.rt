@@ -40,6 +40,7 @@ fn share_into<G: Group>(
 // Neither the Deal nor the share is drawn up.
 fn check_refused<G: Group>(
     rt: &impl Abort,
+    what: &str,
     t: u8,
     coefficients: &[u8],
     room: usize,
@@ -50,9 +51,9 @@ fn check_refused<G: Group>(
     }
     let mut out = [0xAA; 80];
     let deal = deal_into::<G>(t, coefficients, room, &mut out);
-    assert_eq!(rt; deal, Err(fault), "Deal");
+    assert_eq!(rt; deal, Err(fault), "Deal, {}, t = {}", what, t);
     let share = share_into::<G>(t, coefficients, room, &mut out);
-    assert_eq!(rt; share, Err(fault), "share");
+    assert_eq!(rt; share, Err(fault), "share, {}, t = {}", what, t);
     check_rest(rt, &out, 0);
     Ok(())
 }
@@ -75,8 +76,15 @@ fn check_code<G: Group>(
     assert_eq!(rt; fault.number(), 9);
     assert_eq!(rt; fault.place(), place);
     assert_eq!(rt; fault.reason(), 1);
-    check_refused::<G>(rt, t, &coefficients[0..given], 80, fault)?;
-    check_refused::<G>(rt, t, &coefficients[0..given], 0, fault)
+    check_refused::<G>(rt, "a wrong code", t, &coefficients[0..given], 80, fault)?;
+    check_refused::<G>(
+        rt,
+        "a wrong code and no room",
+        t,
+        &coefficients[0..given],
+        0,
+        fault,
+    )
 }
 
 // A wrong code at each place in turn.
@@ -113,10 +121,17 @@ fn check_lengths<G: Group>(
     assert_eq!(rt; fault.number(), 3);
     assert_eq!(rt; fault.place(), 0);
     assert_eq!(rt; fault.reason(), 0);
-    check_refused::<G>(rt, t, &coefficients[0..given - 1], 80, fault)?;
-    check_refused::<G>(rt, t, &coefficients[0..given + 1], 80, fault)?;
+    check_refused::<G>(rt, "short", t, &coefficients[0..given - 1], 80, fault)?;
+    check_refused::<G>(rt, "long", t, &coefficients[0..given + 1], 80, fault)?;
     write_code(&mut coefficients, 0, G::scalar_width(), q);
-    check_refused::<G>(rt, t, &coefficients[0..given - 1], 0, fault)
+    check_refused::<G>(
+        rt,
+        "short and wrong",
+        t,
+        &coefficients[0..given - 1],
+        0,
+        fault,
+    )
 }
 
 // One byte of room too few is refused, and exactly as many as are written are enough.

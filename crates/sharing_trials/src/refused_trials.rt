@@ -13,11 +13,17 @@ use std::test::Fail;
 // Four commitments and a share, of which the first bytes are handed over.
 fn check_refused<G: Group>(
     rt: &impl Abort,
+    what: &str,
     commitments: &[u8],
     share: &[u8],
     fault: DealingFault,
 ) -> Result<(), Fail> {
-    assert_eq!(rt; test_share::<G>(3, commitments, share, 32), Err(fault));
+    assert_eq!(rt;
+        test_share::<G>(3, commitments, share, 32),
+        Err(fault),
+        "{}",
+        what
+    );
     Ok(())
 }
 
@@ -30,10 +36,34 @@ fn check_lengths<G: Group>(
     let s = 2 * G::scalar_width();
     let fault = DealingFault::Length;
     assert!(rt; test_share::<G>(3, &commitments[0..w], &share[0..s], 32).is_ok());
-    check_refused::<G>(rt, &commitments[0..w - 1], &share[0..s], fault)?;
-    check_refused::<G>(rt, &commitments[0..w + 1], &share[0..s], fault)?;
-    check_refused::<G>(rt, &commitments[0..w], &share[0..s - 1], fault)?;
-    check_refused::<G>(rt, &commitments[0..w], &share[0..s + 1], fault)
+    check_refused::<G>(
+        rt,
+        "few commitments",
+        &commitments[0..w - 1],
+        &share[0..s],
+        fault,
+    )?;
+    check_refused::<G>(
+        rt,
+        "many commitments",
+        &commitments[0..w + 1],
+        &share[0..s],
+        fault,
+    )?;
+    check_refused::<G>(
+        rt,
+        "a short share",
+        &commitments[0..w],
+        &share[0..s - 1],
+        fault,
+    )?;
+    check_refused::<G>(
+        rt,
+        "a long share",
+        &commitments[0..w],
+        &share[0..s + 1],
+        fault,
+    )
 }
 
 fn check_codes<G: Group>(
@@ -48,13 +78,14 @@ fn check_codes<G: Group>(
     let left = DealingFault::Code(GroupFault::NoCandidate { place: 0 });
     let last = DealingFault::Code(GroupFault::NoCandidate { place: 3 * w });
     write_code(share, s, s, q);
-    check_refused::<G>(rt, &commitments[0..4 * w], &share[0..2 * s], right)?;
+    check_refused::<G>(rt, "s'", &commitments[0..4 * w], &share[0..2 * s], right)?;
     write_code(share, 0, s, q);
-    check_refused::<G>(rt, &commitments[0..4 * w], &share[0..2 * s], left)?;
+    check_refused::<G>(rt, "s", &commitments[0..4 * w], &share[0..2 * s], left)?;
     write_code(commitments, 3 * w, w, 0);
-    check_refused::<G>(rt, &commitments[0..4 * w], &share[0..2 * s], last)?;
+    check_refused::<G>(rt, "C_3", &commitments[0..4 * w], &share[0..2 * s], last)?;
     check_refused::<G>(
         rt,
+        "length first",
         &commitments[0..4 * w],
         &share[0..s],
         DealingFault::Length,

@@ -61,7 +61,8 @@ fn check_values<G: Group>(rt: &impl Abort, q: u32, count: usize) -> Result<(), F
         assert_eq!(rt;
             u64::from(G::scalar_number(value.value)),
             expected,
-            "{}",
+            "{} coefficients at {}",
+            count,
             seat
         );
     }

@@ -22,15 +22,16 @@ fn squares() -> [bool; 2039] {
 // The answer is the expected one, and a refusal gives its reason and the place.
 fn check_answer(
     rt: &impl Abort,
+    n: u32,
     answer: Result<u32, GroupFault>,
     expected: Result<u32, GroupFault>,
 ) -> Result<(), Fail> {
     if let Err(fault) = answer {
         let reason = if fault == NO_CANDIDATE { 1 } else { 2 };
-        assert_eq!(rt; fault.reason(), reason);
-        assert_eq!(rt; fault.place(), PLACE);
+        assert_eq!(rt; fault.reason(), reason, "{}", n);
+        assert_eq!(rt; fault.place(), PLACE, "{}", n);
     }
-    assert_eq!(rt; answer, expected);
+    assert_eq!(rt; answer, expected, "{}", n);
     Ok(())
 }
 
@@ -52,7 +53,7 @@ fn residue_codes(rt: HostRuntime) -> Result<(), Fail> {
     let mut members = 0u32;
     for n in 0..65536u32 {
         let expected = residue_expected(n, &squares);
-        check_answer(&rt, element_read::<Residues>(&coded(n, 2)), expected)?;
+        check_answer(&rt, n, element_read::<Residues>(&coded(n, 2)), expected)?;
         if expected == Ok(n) {
             members = members.saturating_add(1);
         }
@@ -65,7 +66,7 @@ fn residue_codes(rt: HostRuntime) -> Result<(), Fail> {
 fn residue_scalar_codes(rt: HostRuntime) -> Result<(), Fail> {
     for n in 0..65536u32 {
         let expected = if n < 1019 { Ok(n) } else { Err(NO_CANDIDATE) };
-        check_answer(&rt, scalar_read::<Residues>(&coded(n, 2)), expected)?;
+        check_answer(&rt, n, scalar_read::<Residues>(&coded(n, 2)), expected)?;
     }
     Ok(())
 }
@@ -83,6 +84,7 @@ fn polynomial_codes_at_the_edges(rt: HostRuntime) -> Result<(), Fail> {
     for n in [0, 1, 2, 3, 131070, 131071, 131072, 131073, 262143, 16777215] {
         check_answer(
             &rt,
+            n,
             element_read::<BinaryPolynomials>(&coded(n, 3)),
             polynomial_expected(n),
         )?;
@@ -94,7 +96,12 @@ fn polynomial_codes_at_the_edges(rt: HostRuntime) -> Result<(), Fail> {
 #[test]
 fn polynomial_codes(rt: HostRuntime) -> Result<(), Fail> {
     for n in 1..131072u32 {
-        check_answer(&rt, element_read::<BinaryPolynomials>(&coded(n, 3)), Ok(n))?;
+        check_answer(
+            &rt,
+            n,
+            element_read::<BinaryPolynomials>(&coded(n, 3)),
+            Ok(n),
+        )?;
     }
     Ok(())
 }
@@ -105,6 +112,7 @@ fn polynomial_scalar_codes(rt: HostRuntime) -> Result<(), Fail> {
         let expected = if n < 131071 { Ok(n) } else { Err(NO_CANDIDATE) };
         check_answer(
             &rt,
+            n,
             scalar_read::<BinaryPolynomials>(&coded(n, 3)),
             expected,
         )?;

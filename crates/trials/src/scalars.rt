@@ -16,10 +16,27 @@ fn check_sums<G: Group>(rt: &impl Abort, q: u32, a: u32, b: u32) -> Result<(), F
     let m = u64::from(a % q);
     let n = u64::from(b % q);
     let q = u64::from(q);
-    assert_eq!(rt; u64::from(G::scalar_number(x)), m);
-    assert_eq!(rt; u64::from(G::scalar_number(G::add(x, y))), (m + n) % q);
-    assert_eq!(rt; u64::from(G::scalar_number(G::multiply(x, y))), m * n % q);
-    assert_eq!(rt; u64::from(G::scalar_number(G::negate(x))), (q - m) % q);
+    assert_eq!(rt; u64::from(G::scalar_number(x)), m, "{}", a);
+    assert_eq!(rt;
+        u64::from(G::scalar_number(G::add(x, y))),
+        (m + n) % q,
+        "{} {}",
+        a,
+        b
+    );
+    assert_eq!(rt;
+        u64::from(G::scalar_number(G::multiply(x, y))),
+        m * n % q,
+        "{} {}",
+        a,
+        b
+    );
+    assert_eq!(rt;
+        u64::from(G::scalar_number(G::negate(x))),
+        (q - m) % q,
+        "{}",
+        a
+    );
     Ok(())
 }
 
@@ -28,11 +45,11 @@ fn check_inverse<G: Group>(rt: &impl Abort, a: u32) -> Result<(), Fail> {
     let x = G::reduced(a);
     match G::invert(x) {
         Some(y) => {
-            assert_eq!(rt; G::scalar_number(G::multiply(y, x)), 1);
+            assert_eq!(rt; G::scalar_number(G::multiply(y, x)), 1, "{}", a);
             Ok(())
         },
         None => {
-            assert_eq!(rt; G::scalar_number(x), 0);
+            assert_eq!(rt; G::scalar_number(x), 0, "{}", a);
             Ok(())
         },
     }
