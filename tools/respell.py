@@ -52,6 +52,36 @@ CHOSEN = {name: name.replace("-", "_") + "_lem" for name in LEMMAS} | {
     "owes_nothing": "owes_nothing_lem",
 }
 
+# Module parameters and local names, which the pattern of a declaration does not find.
+LOCAL = {
+    "encodedA": "encoded_a",
+    "encodedB": "encoded_b",
+    "wA": "w_a",
+    "wB": "w_b",
+    "refusalA": "refusal_a",
+    "refusalB": "refusal_b",
+    "decodedA": "decoded_a",
+    "decodedB": "decoded_b",
+    "wide-root": "wide_root",
+    "records-back": "records_back",
+    "letters-back": "letters_back",
+    "inG": "in_g",
+    "inH": "in_h",
+    "code-layer": "code_layer",
+    "code-report": "code_report",
+    "entry-is": "entry_is",
+    "i-is": "i_is",
+    "j-is": "j_is",
+    "area-size": "area_size",
+    "bytes-are": "bytes_are",
+    "low-i": "low_i",
+    "low-j": "low_j",
+    "n-same": "n_same",
+    "n-is": "n_is",
+    "scaled-by": "scaled_by",
+    "everything": "Everything",
+}
+
 
 def files(*ends):
     for folder, dirs, names in os.walk("crates"):
@@ -114,7 +144,11 @@ def turned_source(text, names):
 
 def main():
     dry = "--dry" in sys.argv
-    names = {n: respelled(n) for n in declared() if respelled(n) != n}
+    found = declared()
+    if "code_at" in found and "codeAt" not in found and "same_bytes_lem" in found:
+        print("this tree is respelled already")
+        return
+    names = {n: respelled(n) for n in found if respelled(n) != n} | LOCAL
     used = set()
     for path in files(".antt", ".rt"):
         with open(path, encoding="utf-8") as f:

@@ -142,11 +142,11 @@ module _ (m : Meaning) (laws : Lawful m) (s : State) (bytes : List ℕ) (kind : 
   unfolding answered
   true_here is =
       let codes = (read_record m before.t kinds.Answer bytes).codes in
-      let entry-is : entry after.taken kinds.Answer i j ≡ Some codes = subst (λ (x : Kind). entry after.taken x i j ≡ Some (read_record m before.t x bytes).codes) is entered in
+      let entry_is : entry after.taken kinds.Answer i j ≡ Some codes = subst (λ (x : Kind). entry after.taken x i j ≡ Some (read_record m before.t x bytes).codes) is entered in
       ap (λ (x : Kind). truth_at (noted_truths x s.truths i j truth) i j) is
       ∙ truth_same s.truths i j truth k.truths low.0 low.1
       ∙ f.true_answer is
-      ∙ sym (ap (λ (o : Option (List ℕ)). holds o (λ x. passes1 m after i j (share_in x))) entry-is
+      ∙ sym (ap (λ (o : Option (List ℕ)). holds o (λ x. passes1 m after i j (share_in x))) entry_is
       ∙ passes1_same m after before (same_entries m before bytes kind T kinds.Deal (λ e. omega (arith, ap kind_number is))) i j (share_in codes))
 
   true_after : (y z : ℕ) → truth_at (noted_truths kind s.truths i j truth) y z ≡ answered m after y z
@@ -156,10 +156,10 @@ module _ (m : Meaning) (laws : Lawful m) (s : State) (bytes : List ℕ) (kind : 
       go true e =
           let p = by_parts new kinds.Answer y z e in
           let same : kind ≡ kinds.Answer = kind_same kind kinds.Answer (sym number ∙ p.0) in
-          let i-is : i ≡ y = sym writer ∙ p.1 in
-          let j-is : j ≡ z = sym second ∙ p.2 in
-          subst (λ (v : ℕ). truth_at (noted_truths kind s.truths i j truth) y v ≡ answered m after y v) j-is
-          (subst (λ (v : ℕ). truth_at (noted_truths kind s.truths i j truth) v j ≡ answered m after v j) i-is (true_here same))
+          let i_is : i ≡ y = sym writer ∙ p.1 in
+          let j_is : j ≡ z = sym second ∙ p.2 in
+          subst (λ (v : ℕ). truth_at (noted_truths kind s.truths i j truth) y v ≡ answered m after y v) j_is
+          (subst (λ (v : ℕ). truth_at (noted_truths kind s.truths i j truth) v j ≡ answered m after v j) i_is (true_here same))
       go false e =
           let apart : Apart kinds.Answer y z kind i j = λ a b c. clash (is_by new kinds.Answer y z) (by_from new kinds.Answer y z (number ∙ sym a) (writer ∙ sym b) (second ∙ sym c)) e in
           noted_other kind s.truths i j truth y z low.0 low.1 apart
@@ -169,7 +169,7 @@ module _ (m : Meaning) (laws : Lawful m) (s : State) (bytes : List ℕ) (kind : 
   pub file_kept : Kept m (filed_at s bytes kind i j truth)
   file_kept =
       let o = posting.is_open m s bytes k kind T in
-      let area-size = length-paste s.area s.used bytes (length bytes) file_room (omega arith) in
+      let area_size = length-paste s.area s.used bytes (length bytes) file_room (omega arith) in
       kept_as m (filed_at s bytes kind i j truth) after (filled s ++ bytes) file_board (posting.filled_behind m s bytes k) (record {
         fits = omega (arith, file_room);
         records = posting.records_after_lem m s bytes k kind T;

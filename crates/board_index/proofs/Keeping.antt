@@ -48,5 +48,5 @@ kept_here m s k = record {
 }
 
 pub kept_as : (m : Meaning) (s : State) (b : Board) (bytes : List ℕ) → board_of m s ≡ b → filled s ≡ bytes → KeptAs m s b bytes → Kept m s
-kept_as m s b bytes board bytes-are k =
-    kept_here m s (subst (λ (x : Board). KeptAs m s x (filled s)) (sym board) (subst (KeptAs m s b) (sym bytes-are) k))
+kept_as m s b bytes board bytes_are k =
+    kept_here m s (subst (λ (x : Board). KeptAs m s x (filled s)) (sym board) (subst (KeptAs m s b) (sym bytes_are) k))

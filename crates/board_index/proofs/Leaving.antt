@@ -72,9 +72,9 @@ grid_same n w p q same = sum_same (n + 1) _ _ (λ x _. row_same n w (p x) (q x) 
 
 grid_less : (n w i j : ℕ) (p q : ℕ → ℕ → Bool) → i ≤ n → j ≤ n → p i j ≡ true → q i j ≡ false
     → ((x y : ℕ) → (x ≡ i → y ≡ j → ⊥) → q x y ≡ p x y) → grid n q w + w ≡ grid n p w
-grid_less n w i j p q low-i low-j is gone others =
+grid_less n w i j p q low_i low_j is gone others =
     sum_less (n + 1) i w _ _ (omega arith)
-    (row_less n w j (p i) (q i) low-j is gone (λ y other. others i y (λ _ e. other e)))
+    (row_less n w j (p i) (q i) low_j is gone (λ y other. others i y (λ _ e. other e)))
     (λ x _ other. row_same n w (p x) (q x) (λ y. others x y (λ e _. other e)))
 
 -- The pairs that the kinds may name.
@@ -123,12 +123,12 @@ untaken_at n taken kind i j v e = ap (λ (w : Bool). may_name n kind i j && not 
 left_of_lem : (m : Meaning) (b c : Board) (kind : Kind) → c.n ≡ b.n → c.t ≡ b.t
     → left_of m c kind ≡ grid b.n (untaken b.n c.taken kind) (record_size m b.t kind)
 unfolding left_of
-left_of_lem m b c kind n-same t_same = ap₂ (λ n t. grid n (untaken n c.taken kind) (record_size m t kind)) n-same t_same
+left_of_lem m b c kind n_same t_same = ap₂ (λ n t. grid n (untaken n c.taken kind) (record_size m t kind)) n_same t_same
 
 left_of_same : (m : Meaning) (b c : Board) (kind : Kind) → c.n ≡ b.n → c.t ≡ b.t
     → ((x y : ℕ) → has c.taken kind x y ≡ has b.taken kind x y) → left_of m c kind ≡ left_of m b kind
-left_of_same m b c kind n-same t_same same =
-    left_of_lem m b c kind n-same t_same
+left_of_same m b c kind n_same t_same same =
+    left_of_lem m b c kind n_same t_same
     ∙ grid_same b.n _ _ _ (λ x y. untaken_at b.n c.taken kind x y _ (same x y))
     ∙ sym (left_of_lem m b b kind refl refl)
 
@@ -136,9 +136,9 @@ left_of_less : (m : Meaning) (b c : Board) (kind : Kind) (i j : ℕ) → c.n ≡
     → may_name b.n kind i j ≡ true → has b.taken kind i j ≡ false → has c.taken kind i j ≡ true
     → ((x y : ℕ) → (x ≡ i → y ≡ j → ⊥) → has c.taken kind x y ≡ has b.taken kind x y)
     → left_of m c kind + record_size m b.t kind ≡ left_of m b kind
-left_of_less m b c kind i j n-same t_same named absent there others =
+left_of_less m b c kind i j n_same t_same named absent there others =
     let low = named_low b.n kind i j named in
-    let after = left_of_lem m b c kind n-same t_same in
+    let after = left_of_lem m b c kind n_same t_same in
     let before = left_of_lem m b b kind refl refl in
     let is = and_from _ _ named (not_from_false _ absent) in
     let gone = and_right (may_name b.n kind i j) _ (not_from_true _ there) in
@@ -160,7 +160,7 @@ one_kind Close w h = absurd (false≢true h)
 one_kind Letter w h = absurd (false≢true h)
 one_kind Sheet w h = absurd (false≢true h)
 
-module _ (m : Meaning) (b c : Board) (kind : Kind) (i j : ℕ) (indexed : is_indexed kind ≡ true) (n-same : c.n ≡ b.n) (t_same : c.t ≡ b.t)
+module _ (m : Meaning) (b c : Board) (kind : Kind) (i j : ℕ) (indexed : is_indexed kind ≡ true) (n_same : c.n ≡ b.n) (t_same : c.t ≡ b.t)
     (as_many : starts c.taken ≡ starts b.taken) (named : may_name b.n kind i j ≡ true) (absent : has b.taken kind i j ≡ false)
     (there : has c.taken kind i j ≡ true)
     (others : (k : Kind) (x y : ℕ) → is_indexed k ≡ true → ((kind_number k ≡ kind_number kind) → (x ≡ i) → (y ≡ j) → ⊥) → has c.taken k x y ≡ has b.taken k x y) where
@@ -169,10 +169,10 @@ module _ (m : Meaning) (b c : Board) (kind : Kind) (i j : ℕ) (indexed : is_ind
     | inl same ↦
         subst (λ (k : Kind). left_of m c k + cond (is_kind kind k) (record_size m b.t kind) 0 ≡ left_of m b k) (kind_same kind k same)
         (ap (λ (v : Bool). left_of m c kind + cond v (record_size m b.t kind) 0) (eq-eqb _ _ refl)
-        ∙ left_of_less m b c kind i j n-same t_same named absent there (λ x y other. others kind x y indexed (λ _. other)))
+        ∙ left_of_less m b c kind i j n_same t_same named absent there (λ x y other. others kind x y indexed (λ _. other)))
     | inr apart ↦
         ap (λ (v : Bool). left_of m c k + cond v (record_size m b.t kind) 0) (ne_eqb _ _ apart) ∙ omega arith
-        ∙ left_of_same m b c k n-same t_same (λ x y. others k x y is (λ e _ _. apart (sym e)))
+        ∙ left_of_same m b c k n_same t_same (λ x y. others k x y is (λ e _ _. apart (sym e)))
   ]
 
   pub left_filed : left m c + record_size m b.t kind ≡ left m b
@@ -183,8 +183,8 @@ module _ (m : Meaning) (b c : Board) (kind : Kind) (i j : ℕ) (indexed : is_ind
 pub left_closed : (m : Meaning) (b c : Board) → c.n ≡ b.n → c.t ≡ b.t → starts c.taken ≡ suc (starts b.taken) → starts b.taken ≤ 6
     → ((k : Kind) (x y : ℕ) → is_indexed k ≡ true → has c.taken k x y ≡ has b.taken k x y) → left m c + 5 ≡ left m b
 unfolding left
-left_closed m b c n-same t_same one_more few same =
-    let of : (k : Kind) → is_indexed k ≡ true → left_of m c k ≡ left_of m b k = λ k is. left_of_same m b c k n-same t_same (λ x y. same k x y is) in
+left_closed m b c n_same t_same one_more few same =
+    let of : (k : Kind) → is_indexed k ≡ true → left_of m c k ≡ left_of m b k = λ k is. left_of_same m b c k n_same t_same (λ x y. same k x y is) in
     omega (arith, of Deal refl, of Complaint refl, of Answer refl, of Exposure refl, of Objection refl, of Reveal refl)
 
 pub left_opened : (m : Meaning) (b : Board) → 1 ≤ b.n → starts b.taken ≡ 1 → ((k : Kind) (x y : ℕ) → is_indexed k ≡ true → has b.taken k x y ≡ false)

@@ -34,10 +34,10 @@ module _ (m : Meaning) (laws : Lawful m) where
       let ab = laws.commutative in
       let G : ℕ → ℕ = power (products m) m.g in
       let H : ℕ → ℕ = power (products m) m.h in
-      let inG : (n : ℕ) → m.member (G n) ≡ true = λ n. power_member ab m.g n laws.g_member in
-      let inH : (n : ℕ) → m.member (H n) ≡ true = λ n. power_member ab m.h n laws.h_member in
-      ap (λ (v : ℕ). m.product v (m.product (G x) (H y))) (power_op ab (G a) (H b) e (inG a) (inH b))
-      ∙ swap_middle ab (power (products m) (G a) e) (power (products m) (H b) e) (G x) (H y) (power_member ab (G a) e (inG a)) (power_member ab (H b) e (inH b)) (inG x) (inH y)
+      let in_g : (n : ℕ) → m.member (G n) ≡ true = λ n. power_member ab m.g n laws.g_member in
+      let in_h : (n : ℕ) → m.member (H n) ≡ true = λ n. power_member ab m.h n laws.h_member in
+      ap (λ (v : ℕ). m.product v (m.product (G x) (H y))) (power_op ab (G a) (H b) e (in_g a) (in_h b))
+      ∙ swap_middle ab (power (products m) (G a) e) (power (products m) (H b) e) (G x) (H y) (power_member ab (G a) e (in_g a)) (power_member ab (H b) e (in_h b)) (in_g x) (in_h y)
       ∙ ap₂ m.product (power_step m.g laws.g_member e a x) (power_step m.h laws.h_member e b y)
 
   module _ (bytes : List ℕ) (away j : ℕ) where

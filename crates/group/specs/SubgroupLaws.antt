@@ -25,14 +25,14 @@ module _ (candidate : ℕ → Bool) (m : Monoid ℕ) (q : ℕ) where
       → ((u : ℕ) → wide u ≡ true → power m u q ≡ m.unit → candidate u ≡ true)
       → Commutative (roots candidate m q) m
   roots_commutative {wide} laws widen narrow =
-      let wide-root : (u : ℕ) → roots candidate m q u ≡ true → wide u ≡ true = λ u h. widen u (root_of u h).candid in record {
+      let wide_root : (u : ℕ) → roots candidate m q u ≡ true → wide u ≡ true = λ u h. widen u (root_of u h).candid in record {
         closed = λ u v hu hv.
-            let wu = wide-root u hu in
-            let wv = wide-root v hv in
+            let wu = wide_root u hu in
+            let wv = wide_root v hv in
             let r = power_op laws u v q wu wv ∙ ap₂ m.op (root_of u hu).root (root_of v hv).root ∙ laws.neutral m.unit laws.unit_member in
             root_from (m.op u v) (narrow (m.op u v) (laws.closed u v wu wv) r) r;
         unit_member = root_from m.unit (narrow m.unit laws.unit_member (power_unit laws q)) (power_unit laws q);
-        assoc = λ u v w hu hv hw. laws.assoc u v w (wide-root u hu) (wide-root v hv) (wide-root w hw);
-        comm = λ u v hu hv. laws.comm u v (wide-root u hu) (wide-root v hv);
-        neutral = λ u hu. laws.neutral u (wide-root u hu);
+        assoc = λ u v w hu hv hw. laws.assoc u v w (wide_root u hu) (wide_root v hv) (wide_root w hw);
+        comm = λ u v hu hv. laws.comm u v (wide_root u hu) (wide_root v hv);
+        neutral = λ u hu. laws.neutral u (wide_root u hu);
       }

@@ -48,23 +48,23 @@ nothing_wrong m p c i a u q e n s is =
       ]
     ]
 
-module _ (records-back : RecordsReadBack) (letters-back : LettersReadBack) (m : Meaning) (laws : Lawful m) (made : Made) (calls : List Call) (set : ℕ → Bool) (of : ℕ → ℕ) (faithful : Faithful m made calls set of)
+module _ (records_back : RecordsReadBack) (letters_back : LettersReadBack) (m : Meaning) (laws : Lawful m) (made : Made) (calls : List Call) (set : ℕ → Bool) (of : ℕ → ℕ) (faithful : Faithful m made calls set of)
     (j : ℕ) (f : set j ≡ true) (c : Custodian) (there : (after m made calls).custodians (of j) ≡ Some c) (st : 5 < starts (board_after m made calls).taken) where
   abbrev b : Board
   b = board_after m made calls
 
   range : (1 ≤ c.seat) × (c.seat ≤ b.n)
-  range = seat_range records-back letters-back m laws made calls set of faithful j f c there
+  range = seat_range records_back letters_back m laws made calls set of faithful j f c there
 
   own_seat : c.seat ≡ j
-  own_seat = seat_is records-back letters-back m laws made calls set of faithful j f c there
+  own_seat = seat_is records_back letters_back m laws made calls set of faithful j f c there
 
   mine_exposed : is_some (exposure_of b j) ≡ true → (k : ℕ) → passes2 m b j k (own_share m c k).0 ≡ true
   unfolding passes2
   mine_exposed e k =
       let A = some_of _ e in
       ap (λ (o : Option (List ℕ)). holds o (λ D. equation2 m D k (own_share m c k).0)) A.1
-      ∙ eq-eqb _ _ (own_exposed m laws c.coefficients k ∙ ap (λ (D : List ℕ). value_at (products m) D k) (sym (exposure_own records-back letters-back m laws made calls set of faithful j f c there A.0 A.1)))
+      ∙ eq-eqb _ _ (own_exposed m laws c.coefficients k ∙ ap (λ (D : List ℕ). value_at (products m) D k) (sym (exposure_own records_back letters_back m laws made calls set of faithful j f c there A.0 A.1)))
 
   -- equation 2 of its share from an uncontested dealer
   exposed_share : (i : ℕ) → qualified m b i ≡ true → contested m b i ≡ false → (s : ℕ × ℕ) → share_from m b c i ≡ Some s → passes2 m b i c.seat s.0 ≡ true
@@ -96,8 +96,8 @@ module _ (records-back : RecordsReadBack) (letters-back : LettersReadBack) (m : 
           let pp : share_from m p c i ≡ Some s = share_same m p b (same kinds.Deal (omega arith) (omega arith)) (same kinds.Answer (omega arith) (omega arith)) c i ∙ e in
           sym (passes2_same m p b (same kinds.Exposure (omega arith) (omega arith)) i c.seat s.0) ∙ nothing_wrong m p c i a u qp ep np s pp
 
-  has_share : (i : ℕ) → qualified m b i ≡ true → Held records-back letters-back m laws made calls set of faithful j f c there i
-  has_share i q = held records-back letters-back m laws made calls set of faithful j f c there (omega (arith, st)) i q
+  has_share : (i : ℕ) → qualified m b i ≡ true → Held records_back letters_back m laws made calls set of faithful j f c there i
+  has_share i q = held records_back letters_back m laws made calls set of faithful j f c there (omega (arith, st)) i q
 
   rows : (l : List ℕ) → AllByRecursion (λ i. qualified m b i ≡ true) l → (ps : List (ℕ × ℕ)) × (all_of (share_from m b c) l ≡ Some ps) × (shares_pass m b c.seat l ps ≡ true)
   unfolding all_of shares_pass
@@ -128,5 +128,5 @@ module _ (records-back : RecordsReadBack) (letters-back : LettersReadBack) (m : 
       )
 
 pub complete : RecordsReadBack → LettersReadBack → (m : Meaning) → Lawful m → (made : Made) (calls : List Call) (set : ℕ → Bool) (of : ℕ → ℕ) → Trusted m made calls set of → Complete m made calls set of
-complete records-back letters-back m laws made calls set of trusted fin i f c there =
-    sheet_passes_lem records-back letters-back m laws made calls set of trusted.faithful i f c there (omega (arith, finished_starts m (board_after m made calls) fin))
+complete records_back letters_back m laws made calls set of trusted fin i f c there =
+    sheet_passes_lem records_back letters_back m laws made calls set of trusted.faithful i f c there (omega (arith, finished_starts m (board_after m made calls) fin))

@@ -79,7 +79,7 @@ RecordDrawn m made set of earlier bytes = (IsClose bytes → ⊥) → set (write
 abbrev LetterWritten : Meaning → Made → (ℕ → Bool) → (ℕ → ℕ) → List Call → List ℕ → Type 0
 LetterWritten m made set of earlier bytes = set (read_letter m bytes).writer ≡ true → Wrote m made earlier (of (read_letter m bytes).writer) bytes
 
-module _ (records-back : RecordsReadBack) (letters-back : LettersReadBack) (m : Meaning) (laws : Lawful m) (made : Made) (calls : List Call) (set : ℕ → Bool) (of : ℕ → ℕ) (faithful : Faithful m made calls set of)
+module _ (records_back : RecordsReadBack) (letters_back : LettersReadBack) (m : Meaning) (laws : Lawful m) (made : Made) (calls : List Call) (set : ℕ → Bool) (of : ℕ → ℕ) (faithful : Faithful m made calls set of)
     (i : ℕ) (f : set i ≡ true) (c : Custodian) (there : (after m made calls).custodians (of i) ≡ Some c) where
   -- a record of a faithful seat on the board, as its custodian drew it up
   pub record OwnRecord (k : Kind) (j : ℕ) (x : List ℕ) : Type 0 where
@@ -141,7 +141,7 @@ module _ (records-back : RecordsReadBack) (letters-back : LettersReadBack) (m : 
 
       S : Says m d.t o.bytes D.r
       S = subst (λ (z : List ℕ). Says m d.t z D.r) D.written
-          (records-back m laws d.t small_t D.r (owed_fits m laws made D.past (of i) D.c D.there D.r D.owes))
+          (records_back m laws d.t small_t D.r (owed_fits m laws made D.past (of i) D.c D.there D.r D.owes))
 
       is : added m b o.bytes ≡ D.r
       is =
@@ -184,7 +184,7 @@ module _ (records-back : RecordsReadBack) (letters-back : LettersReadBack) (m : 
       r : read_letter m S.bytes ≡ l
       r =
           ap (read_letter m) W.written
-          ∙ letter_reads m laws letters-back l ((limits m made W.past).long I.started)
+          ∙ letter_reads m laws letters_back l ((limits m made W.past).long I.started)
           (omega (arith, seat_small m laws made W.past (of i) W.c W.there)) (omega (arith, W.small, n32))
           (omega (arith, below.0, laws.scalar_fits)) (omega (arith, below.1, laws.scalar_fits))
 

@@ -21,9 +21,9 @@ use Rattle.protocol.specs.Instances.{small, label, made}
 use Rattle.protocol.specs.Met.{Met}
 use Rattle.protocol.proofs.SmallGroup.{small_lawful}
 
-everything : Type 0
+Everything : Type 0
 unfolding power code code_at sum_from decoded_from refused_from count every some those lowest kind_with codes_of entry passes1 passes2 answered qualified starts phase_after phase_of contested all_revealed first_fault tests_of posting_fault opening_fault share_from to_complain_of to_answer to_object_to to_reveal owed_in owed same_bytes seating_fault writing_fault taking_fault owing_fault after_call after
-everything = Unit
+Everything = Unit
 
 calls : List Call
 calls =
@@ -183,15 +183,15 @@ closing_later : {b : List ℕ} {h : List Call} → IsClose b → (c d : Custodia
 closing_later {b} {h} k c d p u q v n e K = closing k c d p u q v (later b h n e) K
 
 at_one : (c : Custodian) → (after small made calls).custodians 1 ≡ Some c → c.seat ≡ 1
-unfolding everything calls
+unfolding Everything calls
 at_one c e = ap (λ (x : Custodian). x.seat) (sym (same_some _ c e))
 
 at_two : (c : Custodian) → (after small made calls).custodians 2 ≡ Some c → c.seat ≡ 2
-unfolding everything calls
+unfolding Everything calls
 at_two c e = ap (λ (x : Custodian). x.seat) (sym (same_some _ c e))
 
 nobody_else : (k : ℕ) → eqb k 1 ≡ false → eqb k 2 ≡ false → (after small made calls).custodians k ≡ None
-unfolding everything calls
+unfolding Everything calls
 nobody_else k p q = simp (p, q)
 
 only_two : (k : ℕ) (c : Custodian) → (after small made calls).custodians k ≡ Some c → c.seat ≡ k
@@ -206,7 +206,7 @@ only_two k c e =
     ]
 
 kept : Kept calls
-unfolding everything calls set of
+unfolding Everything calls set of
 kept =
     let k1 : Kept (drop 35 calls) = opening none in
     let k2 : Kept (drop 34 calls) = seating k1 in
@@ -247,7 +247,7 @@ kept =
     k36
 
 faithful : Faithful small made calls set of
-unfolding everything calls set of
+unfolding Everything calls set of
 faithful = record {
   seated_one = both _ (_, refl, refl) (_, refl, refl);
   no_other = λ i f k c e s. sym (only_two k c e) ∙ s;
@@ -258,7 +258,7 @@ faithful = record {
 }
 
 trusted : Trusted small made calls set of
-unfolding everything calls set
+unfolding Everything calls set
 trusted = record { faithful = faithful; enough = omega arith }
 
 -- Sheets: of the seats 1 and 2, and of the seats 1 and 3, where seat 3 opens its own commitment otherwise.
@@ -275,12 +275,12 @@ others =
     ∷ record { label = label; seat = 3; shares = (5, 1) ∷ (13, 22) ∷ (22, 4) ∷ [] }
     ∷ []
 
-more : Type 0
+More : Type 0
 unfolding weight weighted factor inverse first_from reveals share_of disagrees sum_over recovery sheets_in sheets_written pair_codes shares_pass sheet_passes sheets others
-more = Unit
+More = Unit
 
 pub met : Met
-unfolding everything calls more
+unfolding Everything calls More
 met = record {
   m = small;
   laws = small_lawful;

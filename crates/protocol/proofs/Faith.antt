@@ -61,13 +61,13 @@ grieved m b c i e =
     let r = and_parts new fails q.1 in
     record { apart = λ z. clash (eqb i c.seat) (eq-eqb _ _ z) (not-true _ p.0); dealt = q.0; fails = not-true _ r.1 }
 
-module _ (records-back : RecordsReadBack) (letters-back : LettersReadBack) (m : Meaning) (laws : Lawful m) (made : Made) (calls : List Call) (set : ℕ → Bool) (of : ℕ → ℕ) (faithful : Faithful m made calls set of) where
+module _ (records_back : RecordsReadBack) (letters_back : LettersReadBack) (m : Meaning) (laws : Lawful m) (made : Made) (calls : List Call) (set : ℕ → Bool) (of : ℕ → ℕ) (faithful : Faithful m made calls set of) where
   abbrev b : Board
   b = board_after m made calls
 
   module _ (i : ℕ) (f : set i ≡ true) (c : Custodian) (there : (after m made calls).custodians (of i) ≡ Some c) where
-    record_of : (k : Kind) (j : ℕ) → Middle k → (x : List ℕ) → entry b.taken k i j ≡ Some x → OwnRecord records-back letters-back m laws made calls set of faithful i f c there k j x
-    record_of = own_record records-back letters-back m laws made calls set of faithful i f c there
+    record_of : (k : Kind) (j : ℕ) → Middle k → (x : List ℕ) → entry b.taken k i j ≡ Some x → OwnRecord records_back letters_back m laws made calls set of faithful i f c there k j x
+    record_of = own_record records_back letters_back m laws made calls set of faithful i f c there
 
     pub deal_own : (C : List ℕ) → deal_of b i ≡ Some C → C ≡ map (commitment m) c.coefficients
     deal_own C s =
@@ -131,7 +131,7 @@ module _ (records-back : RecordsReadBack) (letters-back : LettersReadBack) (m : 
         let u = C.holds C.is_close (phase_is m (board_after m made C.past) 1 C.in_that_phase (omega arith)) i j f g n in
         let e : u.0 ≡ y = same_some _ _ (sym u.1 ∙ ap (λ (z : ℕ → Option Custodian). z (of j)) C.custodians ∙ there_y) in
         let p = some_of (y.letters i) (ap (λ (z : Custodian). is_some (z.letters i)) (sym e) ∙ u.2) in
-        p.1 ∙ ap Some (letter_own records-back letters-back m laws made calls set of faithful i f c there (of j) y there_y p.0 p.1)
+        p.1 ∙ ap Some (letter_own records_back letters_back m laws made calls set of faithful i f c there (of j) y there_y p.0 p.1)
 
     -- no faithful seat complains of it
     pub no_complaint : (j : ℕ) → complained b j i ≡ true → set j ≡ true → ⊥
@@ -146,8 +146,8 @@ module _ (records-back : RecordsReadBack) (letters-back : LettersReadBack) (m : 
         there_y : (after m made calls).custodians (of j) ≡ Some y
         there_y = (faithful.seated_one j g).1
 
-        r : OwnRecord records-back letters-back m laws made calls set of faithful j g y there_y kinds.Complaint i (some_of _ e).0
-        r = own_record records-back letters-back m laws made calls set of faithful j g y there_y kinds.Complaint i (record { low = omega arith; high = omega arith }) (some_of _ e).0 (some_of _ e).1
+        r : OwnRecord records_back letters_back m laws made calls set of faithful j g y there_y kinds.Complaint i (some_of _ e).0
+        r = own_record records_back letters_back m laws made calls set of faithful j g y there_y kinds.Complaint i (record { low = omega arith; high = omega arith }) (some_of _ e).0 (some_of _ e).1
 
         p : Board
         p = board_after m made r.past

@@ -32,7 +32,7 @@ if_fails : (f : ℕ × ℕ → Bool) (o : Option (ℕ × ℕ)) → holds o f ≡
 if_fails f None e = refl
 if_fails f (Some p) e = cond-false _ _ _ e
 
-module _ (records-back : RecordsReadBack) (letters-back : LettersReadBack) (m : Meaning) (laws : Lawful m) (made : Made) (calls : List Call) (set : ℕ → Bool) (of : ℕ → ℕ) (faithful : Faithful m made calls set of)
+module _ (records_back : RecordsReadBack) (letters_back : LettersReadBack) (m : Meaning) (laws : Lawful m) (made : Made) (calls : List Call) (set : ℕ → Bool) (of : ℕ → ℕ) (faithful : Faithful m made calls set of)
     (j : ℕ) (f : set j ≡ true) (c : Custodian) (there : (after m made calls).custodians (of j) ≡ Some c) where
   abbrev b : Board
   b = board_after m made calls
@@ -97,8 +97,8 @@ module _ (records-back : RecordsReadBack) (letters-back : LettersReadBack) (m : 
       mine : eqb i c.seat ≡ true → Found i
       mine e =
           let is : i ≡ c.seat = eqb-true _ _ e in
-          let ij : j ≡ i = sym (seat_is records-back letters-back m laws made calls set of faithful j f c there) ∙ sym is in
-          let own = own_passes_now records-back letters-back m laws made calls set of faithful j f c there (ap (λ (z : ℕ). is_some (deal_of b z)) ij ∙ deal) c.seat in
+          let ij : j ≡ i = sym (seat_is records_back letters_back m laws made calls set of faithful j f c there) ∙ sym is in
+          let own = own_passes_now records_back letters_back m laws made calls set of faithful j f c there (ap (λ (z : ℕ). is_some (deal_of b z)) ij ∙ deal) c.seat in
           record {
             share = own_share m c i;
             is = cond-true _ _ _ e;

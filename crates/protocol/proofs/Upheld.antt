@@ -32,7 +32,7 @@ owes_reveal m b c p i lo hi u = go (owed_in m b c (phase_of m b)) refl
     go None e = clash (to_reveal m b c i) u (none_revealing m b c p e i lo hi)
     go (Some r) e = (r, e, kind_same r.kind kinds.Reveal ((owes_is m b c r (phase_of m b) e).kind ∙ ap suc p))
 
-module _ (records-back : RecordsReadBack) (letters-back : LettersReadBack) (m : Meaning) (laws : Lawful m) (made : Made) (calls : List Call) (set : ℕ → Bool) (of : ℕ → ℕ) (trusted : Trusted m made calls set of) where
+module _ (records_back : RecordsReadBack) (letters_back : LettersReadBack) (m : Meaning) (laws : Lawful m) (made : Made) (calls : List Call) (set : ℕ → Bool) (of : ℕ → ℕ) (trusted : Trusted m made calls set of) where
   abbrev b : Board
   b = board_after m made calls
 
@@ -40,7 +40,7 @@ module _ (records-back : RecordsReadBack) (letters-back : LettersReadBack) (m : 
   enough = omega (arith, trusted.enough)
 
   stay_qualified : 4 ≤ starts b.taken → (i : ℕ) → set i ≡ true → qualified m b i ≡ true
-  stay_qualified = is_qualified_lem records-back letters-back m laws made calls set of trusted.faithful enough
+  stay_qualified = is_qualified_lem records_back letters_back m laws made calls set of trusted.faithful enough
 
   never_void : phase_of m b ≡ Void → ⊥
   never_void v =
@@ -92,7 +92,7 @@ module _ (records-back : RecordsReadBack) (letters-back : LettersReadBack) (m : 
         let u = or_parts (not (set j)) (revealed b j d) w.3 in
         let f = not-false _ u.0 in
         let S = trusted.faithful.seated_one j f in
-        let H = held records-back letters-back m laws made calls set of trusted.faithful j f S.0 S.1 (omega (arith, st)) d (contested_qualified m b d contested_d) in
+        let H = held records_back letters_back m laws made calls set of trusted.faithful j f S.0 S.1 (omega (arith, st)) d (contested_qualified m b d contested_d) in
         let r = owes_reveal m b S.0 L.phase d short.1 short.2
         (and_from (contested m b d) _ contested_d (and_from (is_some (share_from m b S.0 d)) _ (ap is_some H.is) (not_from_false _ (ap (λ (k : ℕ). revealed b k d) S.2 ∙ u.1)))) in
         (j, S.0, r.0, f, S.1, r.1, r.2)

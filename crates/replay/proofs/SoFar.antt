@@ -63,7 +63,7 @@ came m s bytes r after answer h = go (posting_fault m (board_of m s) bytes) refl
           board = h.1 ∙ sym (ap (λ (o : Option CeremonyFault). unless_fault o (posted m (board_of m s) bytes) (board_of m s)) e);
           area = same_area after.area (appended s bytes) after.used (s.used + length bytes) h.0.area h.0.used
               ∙ sym (ap (λ (o : Option CeremonyFault). area_unless o (record { bytes = appended s bytes; used = s.used + length bytes }) (area_of s)) e);
-          tested = (let n-is : n ≡ equations_taken (kind_with (kind_field bytes)) = cc in n-is) ∙ sym (ap (λ (o : Option CeremonyFault). equations_by o (kind_with (kind_field bytes))) e);
+          tested = (let n_is : n ≡ equations_taken (kind_with (kind_field bytes)) = cc in n_is) ∙ sym (ap (λ (o : Option CeremonyFault). equations_by o (kind_with (kind_field bytes))) e);
           taking = sym (ap (λ (o : Option CeremonyFault). or_refused o 1 0) e);
           refusing = sym (ap (λ (o : Option CeremonyFault). or_refused o 0 1) e);
         }

@@ -62,11 +62,11 @@ module _ {A B : Type 0} (in_a : A → Bool) (in_b : B → Bool) (a : Monoid A) (
   pub pair_exponent : (q : ℕ) → Exponent q in_a a → Exponent q in_b b → Exponent q (both_members in_a in_b) (pair_sum a b)
   pair_exponent q l r x h = scaled_pair a b q x ∙ join (l x.0 (parts x h).0) (r x.1 (parts x h).1)
 
-pub pair_length : {A B : Type 0} (encodedA : A → List ℕ) (encodedB : B → List ℕ) {wA wB : ℕ}
-    → ((v : A) → length (encodedA v) ≡ wA) → ((v : B) → length (encodedB v) ≡ wB)
-    → (v : A × B) → length (encodedA v.0 ++ encodedB v.1) ≡ wA + wB
-pair_length encodedA encodedB l r v =
-    length-append (encodedA v.0) (encodedB v.1) ∙ ap₂ ◌+◌ (l v.0) (r v.1)
+pub pair_length : {A B : Type 0} (encoded_a : A → List ℕ) (encoded_b : B → List ℕ) {w_a w_b : ℕ}
+    → ((v : A) → length (encoded_a v) ≡ w_a) → ((v : B) → length (encoded_b v) ≡ w_b)
+    → (v : A × B) → length (encoded_a v.0 ++ encoded_b v.1) ≡ w_a + w_b
+pair_length encoded_a encoded_b l r v =
+    length-append (encoded_a v.0) (encoded_b v.1) ∙ ap₂ ◌+◌ (l v.0) (r v.1)
 
 -- Codes that nothing is said against are codes of members.
 
@@ -88,9 +88,9 @@ first_none None y e = (refl, e)
 abbrev Judged : {A : Type 0} → (A → Bool) → (List ℕ → ℕ → Option GroupFault) → (List ℕ → ℕ → A) → Type 0
 Judged in_a refusal decoded = (bytes : List ℕ) (at : ℕ) → refusal bytes at ≡ None → in_a (decoded bytes at) ≡ true
 
-module _ {A B : Type 0} (in_a : A → Bool) (in_b : B → Bool) (refusalA refusalB : List ℕ → ℕ → Option GroupFault) (decodedA : List ℕ → ℕ → A) (decodedB : List ℕ → ℕ → B) (wA : ℕ) where
-  pub pair_judged : Judged in_a refusalA decodedA → Judged in_b refusalB decodedB
-      → Judged (both_members in_a in_b) (λ bytes at. first_of (refusalA bytes at) (refusalB bytes (at + wA))) (λ bytes at. (decodedA bytes at, decodedB bytes (at + wA)))
+module _ {A B : Type 0} (in_a : A → Bool) (in_b : B → Bool) (refusal_a refusal_b : List ℕ → ℕ → Option GroupFault) (decoded_a : List ℕ → ℕ → A) (decoded_b : List ℕ → ℕ → B) (w_a : ℕ) where
+  pub pair_judged : Judged in_a refusal_a decoded_a → Judged in_b refusal_b decoded_b
+      → Judged (both_members in_a in_b) (λ bytes at. first_of (refusal_a bytes at) (refusal_b bytes (at + w_a))) (λ bytes at. (decoded_a bytes at, decoded_b bytes (at + w_a)))
   pair_judged l r bytes at e =
-      let none = first_none (refusalA bytes at) (refusalB bytes (at + wA)) e in
-      and_from (in_a (decodedA bytes at)) (in_b (decodedB bytes (at + wA))) (l bytes at none.0) (r bytes (at + wA) none.1)
+      let none = first_none (refusal_a bytes at) (refusal_b bytes (at + w_a)) e in
+      and_from (in_a (decoded_a bytes at)) (in_b (decoded_b bytes (at + w_a))) (l bytes at none.0) (r bytes (at + w_a) none.1)

@@ -46,7 +46,7 @@ loop-k-preserved g c =
     let inside : k < n = omega arith in
     let read : m.of c.known-coefficient.result ≡ decoded (c.args.at + k * w)
     = c.known-coefficient.ensures ∙ ap (λ (x : ℕ). decoded (c.args.at + k * x)) c.code_width.ensures in
-    let scaled-by : m.of c.scale.result ≡ scaled m.sum seat (value_at m.sum rest seat)
+    let scaled_by : m.of c.scale.result ≡ scaled m.sum seat (value_at m.sum rest seat)
     = c.scale.ensures ∙ ap (λ (x : ℕ). scaled m.sum x value) c.reduced-j.ensures
     ∙ scaled_mod m.commutative q seat value c.zero-value.ensures.exponent (m.inside c.loop-k.value)
     ∙ ap (scaled m.sum seat) c.loop-k.invariant in
@@ -55,7 +55,7 @@ loop-k-preserved g c =
     let place = place_after c.args.at c.loop-k.k w c.loop-k-test.true in
     let left : n - k ≡ suc (n - c.loop-k.k) = omega arith in
     c.add-value.ensures
-    ∙ ap₂ m.sum.op read scaled-by
+    ∙ ap₂ m.sum.op read scaled_by
     ∙ horner m.commutative (decoded (c.args.at + k * w)) rest seat here later
     ∙ ap (λ (p : ℕ). value_at m.sum (decoded (c.args.at + k * w) ∷ decoded_from decoded w p (n - c.loop-k.k)) seat) place
     ∙ sym (ap (λ vs. value_at m.sum vs seat) (decoded_next decoded w (c.args.at + k * w) (n - k) (n - c.loop-k.k) left))
