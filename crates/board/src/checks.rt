@@ -6,9 +6,7 @@ ghost use Rattle.protocol.specs.declared.kind.Kind.TheVariants.{Deal, Complaint,
 ghost use Rattle.protocol.specs.declared.phase.Phase.TheVariants.{Dealing, Complaining, Answering, Exposing, Objecting, Revealing};
 ghost use Rattle.protocol.specs.Board.{share_in, passes1, passes2};
 ghost use Rattle.protocol.specs.Refusals.{posting_fault};
-ghost use Rattle.board_index.specs.State.{board_of};
-ghost use Rattle.board_index.specs.Kept.{Kept};
-ghost use Rattle.board.specs.State.{state_of};
+ghost use Rattle.board.specs.State.{board};
 ghost use Rattle.frames.specs.Reading.{OfKind};
 ghost use Rattle.board.specs.Posting.{fault_of, SeatAt, TwoSeats, JudgesRecord};
 
@@ -43,9 +41,8 @@ fn judge_share<G: Group>(bytes: &[u8]) -> Result<(), RecordFault>
 impl<'a, G: Group> Ceremony<'a, G> {
     // The seat at a place of a record.
     fn seat_at(&self, bytes: &[u8], place: usize) -> Result<u8, CeremonyFault>
-        requires kept { Kept G.meaning (state_of self.now) }
         requires within { place < length bytes.now }
-        ensures { SeatAt (board_of G.meaning (state_of self.now)).n bytes.now place result }
+        ensures { SeatAt (board self.now).n bytes.now place result }
     {
         let seat = bytes[place];
         if seat < 1 || seat > self.n {
@@ -56,9 +53,8 @@ impl<'a, G: Group> Ceremony<'a, G> {
 
     // The writer and the second seat of a record that may not name its own writer.
     fn two_seats(&self, bytes: &[u8]) -> Result<(u8, u8), CeremonyFault>
-        requires kept { Kept G.meaning (state_of self.now) }
         requires within { 5 < length bytes.now }
-        ensures { TwoSeats (board_of G.meaning (state_of self.now)) bytes.now result }
+        ensures { TwoSeats (board self.now) bytes.now result }
     {
         let writer = self.seat_at(bytes, 4)?;
         let second = self.seat_at(bytes, 5)?;
@@ -72,20 +68,18 @@ impl<'a, G: Group> Ceremony<'a, G> {
 impl<'a, G: Group> Ceremony<'a, G> {
     // Equation 1, for the share in the bytes of a record.
     pub(crate) fn opens_in(&self, bytes: &[u8], dealer: u8, seat: u8) -> bool
-        requires kept { Kept G.meaning (state_of self.now) }
         requires within { 6 + 2 * G.meaning.s ≤ length bytes.now }
         requires judged { refused_from (scalar_refused G.meaning bytes.now) G.meaning.s 6 2 ≡ None }
-        ensures { result ≡ passes1 G.meaning (board_of G.meaning (state_of self.now)) dealer seat (share_in (decoded_from (λ place. code_at bytes.now G.meaning.s place) G.meaning.s 6 2)) }
+        ensures { result ≡ passes1 G.meaning (board self.now) dealer seat (share_in (decoded_from (λ place. code_at bytes.now G.meaning.s place) G.meaning.s 6 2)) }
     {
         self.opens(dealer, seat, <Share<G> as Linear<G>>::known(bytes, 6))
     }
 
     // Equation 2, for its first part.
     fn is_exposed_in(&self, bytes: &[u8], dealer: u8, seat: u8) -> bool
-        requires kept { Kept G.meaning (state_of self.now) }
         requires within { 6 + 2 * G.meaning.s ≤ length bytes.now }
         requires judged { refused_from (scalar_refused G.meaning bytes.now) G.meaning.s 6 2 ≡ None }
-        ensures { result ≡ passes2 G.meaning (board_of G.meaning (state_of self.now)) dealer seat (share_in (decoded_from (λ place. code_at bytes.now G.meaning.s place) G.meaning.s 6 2)).0 }
+        ensures { result ≡ passes2 G.meaning (board self.now) dealer seat (share_in (decoded_from (λ place. code_at bytes.now G.meaning.s place) G.meaning.s 6 2)).0 }
     {
         self.is_exposed(dealer, seat, <Share<G> as Linear<G>>::known(bytes, 6))
     }
@@ -93,10 +87,9 @@ impl<'a, G: Group> Ceremony<'a, G> {
 
 impl<'a, G: Group> Ceremony<'a, G> {
     pub(crate) fn check_deal(&self, bytes: &[u8]) -> Result<(), CeremonyFault>
-        requires kept { Kept G.meaning (state_of self.now) }
         requires kind { OfKind G.meaning self.now.t bytes.now Deal }
         requires phase { self.now.phase ≡ Dealing }
-        ensures { fault_of result ≡ posting_fault G.meaning (board_of G.meaning (state_of self.now)) bytes.now }
+        ensures { fault_of result ≡ posting_fault G.meaning (board self.now) bytes.now }
     {
         let writer = self.seat_at(bytes, 4)?;
         if self.has(Kind::Deal, writer, 0) {
@@ -107,10 +100,9 @@ impl<'a, G: Group> Ceremony<'a, G> {
     }
 
     pub(crate) fn check_complaint(&self, bytes: &[u8]) -> Result<(), CeremonyFault>
-        requires kept { Kept G.meaning (state_of self.now) }
         requires kind { OfKind G.meaning self.now.t bytes.now Complaint }
         requires phase { self.now.phase ≡ Complaining }
-        ensures { fault_of result ≡ posting_fault G.meaning (board_of G.meaning (state_of self.now)) bytes.now }
+        ensures { fault_of result ≡ posting_fault G.meaning (board self.now) bytes.now }
     {
         let (writer, dealer) = self.two_seats(bytes)?;
         if !self.has(Kind::Deal, dealer, 0) {
@@ -123,10 +115,9 @@ impl<'a, G: Group> Ceremony<'a, G> {
     }
 
     pub(crate) fn check_answer(&self, bytes: &[u8]) -> Result<(), CeremonyFault>
-        requires kept { Kept G.meaning (state_of self.now) }
         requires kind { OfKind G.meaning self.now.t bytes.now Answer }
         requires phase { self.now.phase ≡ Answering }
-        ensures { fault_of result ≡ posting_fault G.meaning (board_of G.meaning (state_of self.now)) bytes.now }
+        ensures { fault_of result ≡ posting_fault G.meaning (board self.now) bytes.now }
     {
         let (dealer, complainer) = self.two_seats(bytes)?;
         if !self.has(Kind::Complaint, complainer, dealer) {
@@ -140,10 +131,9 @@ impl<'a, G: Group> Ceremony<'a, G> {
     }
 
     pub(crate) fn check_exposure(&self, bytes: &[u8]) -> Result<(), CeremonyFault>
-        requires kept { Kept G.meaning (state_of self.now) }
         requires kind { OfKind G.meaning self.now.t bytes.now Exposure }
         requires phase { self.now.phase ≡ Exposing }
-        ensures { fault_of result ≡ posting_fault G.meaning (board_of G.meaning (state_of self.now)) bytes.now }
+        ensures { fault_of result ≡ posting_fault G.meaning (board self.now) bytes.now }
     {
         let writer = self.seat_at(bytes, 4)?;
         if !self.is_qualified(writer) {
@@ -158,10 +148,9 @@ impl<'a, G: Group> Ceremony<'a, G> {
 
     // Taken is an Objection with a share that passes equation 1 and fails equation 2.
     pub(crate) fn check_objection(&self, bytes: &[u8]) -> Result<(), CeremonyFault>
-        requires kept { Kept G.meaning (state_of self.now) }
         requires kind { OfKind G.meaning self.now.t bytes.now Objection }
         requires phase { self.now.phase ≡ Objecting }
-        ensures { fault_of result ≡ posting_fault G.meaning (board_of G.meaning (state_of self.now)) bytes.now }
+        ensures { fault_of result ≡ posting_fault G.meaning (board self.now) bytes.now }
     {
         let (objector, dealer) = self.two_seats(bytes)?;
         if !self.is_qualified(dealer) || !self.has(Kind::Exposure, dealer, 0) {
@@ -183,10 +172,9 @@ impl<'a, G: Group> Ceremony<'a, G> {
     }
 
     pub(crate) fn check_reveal(&self, bytes: &[u8]) -> Result<(), CeremonyFault>
-        requires kept { Kept G.meaning (state_of self.now) }
         requires kind { OfKind G.meaning self.now.t bytes.now Reveal }
         requires phase { self.now.phase ≡ Revealing }
-        ensures { fault_of result ≡ posting_fault G.meaning (board_of G.meaning (state_of self.now)) bytes.now }
+        ensures { fault_of result ≡ posting_fault G.meaning (board self.now) bytes.now }
     {
         let writer = self.seat_at(bytes, 4)?;
         let dealer = self.seat_at(bytes, 5)?;

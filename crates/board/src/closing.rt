@@ -3,25 +3,22 @@ ghost use Rattle.std.specs.Prelude.{◌≡◌, ℕ, ◌≤◌, true, List, None}
 ghost use Rattle.protocol.specs.declared.kind.Kind.TheVariants.{Close};
 ghost use Rattle.protocol.specs.Board.{phase_of, phase_number};
 ghost use Rattle.protocol.specs.Refusals.{posting_fault, posted};
-ghost use Rattle.board_index.specs.State.{board_of};
-ghost use Rattle.board_index.specs.Kept.{Kept};
-ghost use Rattle.board.specs.State.{state_of};
+ghost use Rattle.board.specs.State.{board, state_of};
 ghost use Rattle.frames.specs.Reading.{OfKind};
 ghost use Rattle.board.specs.Posting.{fault_of, posting_answer, AfterPosting};
 
 use crate::ceremony::Ceremony;
+use crate::posting::append;
 use group::group::Group;
 use protocol::fault::CeremonyFault;
 use protocol::phase::Phase;
-use std::marker::PhantomData;
 
 impl<'a, G: Group> Ceremony<'a, G> {
     // A Close ends the phase that it names; the last one needs the Reveals.
     pub(crate) fn check_close(&self, bytes: &[u8]) -> Result<(), CeremonyFault>
-        requires kept { Kept G.meaning (state_of self.now) }
         requires kind { OfKind G.meaning self.now.t bytes.now Close }
         requires phase { (1 ≤ phase_number self.now.phase) × (phase_number self.now.phase ≤ 6) }
-        ensures { fault_of result ≡ posting_fault G.meaning (board_of G.meaning (state_of self.now)) bytes.now }
+        ensures { fault_of result ≡ posting_fault G.meaning (board self.now) bytes.now }
     {
         let phase = self.phase.number();
         if bytes[4] != phase {
@@ -35,8 +32,7 @@ impl<'a, G: Group> Ceremony<'a, G> {
 
     // The phase that a Close begins; the ceremony is void where t or fewer dealers are qualified.
     fn next_phase(&self) -> Phase
-        requires kept { Kept G.meaning (state_of self.now) }
-        ensures { (bytes : List ℕ) → OfKind G.meaning self.now.t bytes Close → posting_fault G.meaning (board_of G.meaning (state_of self.now)) bytes ≡ None → result ≡ phase_of G.meaning (posted G.meaning (board_of G.meaning (state_of self.now)) bytes) }
+        ensures { (bytes : List ℕ) → OfKind G.meaning self.now.t bytes Close → posting_fault G.meaning (board self.now) bytes ≡ None → result ≡ phase_of G.meaning (posted G.meaning (board self.now) bytes) }
     {
         match self.phase {
             Phase::Unopened => Phase::Dealing,
@@ -63,18 +59,15 @@ impl<'a, G: Group> Ceremony<'a, G> {
         checked: Result<(), CeremonyFault>,
         bytes: &[u8],
     ) -> Result<u8, CeremonyFault>
-        requires kept { Kept G.meaning (state_of self.old) }
         requires kind { OfKind G.meaning self.old.t bytes.now Close }
-        requires checked { fault_of checked ≡ posting_fault G.meaning (board_of G.meaning (state_of self.old)) bytes.now }
-        ensures answer { result ≡ posting_answer G.meaning (board_of G.meaning (state_of self.old)) bytes.now }
+        requires checked { fault_of checked ≡ posting_fault G.meaning (board self.old) bytes.now }
+        ensures answer { result ≡ posting_answer G.meaning (board self.old) bytes.now }
         ensures after { AfterPosting G.meaning (state_of self.old) bytes.now result (state_of self.new) }
-        ensures kept { Kept G.meaning (state_of self.new) }
         ensures lender { self.new.area.ghost_name ≡ self.old.area.ghost_name }
     {
-        let _of: PhantomData<G> = PhantomData;
         checked?;
         let next = self.next_phase();
-        self.append(bytes);
+        self.used = append(self.area, self.used, bytes);
         self.phase = next;
         Ok(0)
     }

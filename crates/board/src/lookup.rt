@@ -6,9 +6,8 @@ ghost use Rattle.protocol.specs.declared.kind.Kind.TheVariants.{Deal, Exposure};
 ghost use Rattle.protocol.specs.Seats.{count, every};
 ghost use Rattle.protocol.specs.Record.{layout_of, Elements, SecondAndShare};
 ghost use Rattle.protocol.specs.Board.{entry, has as is_taken, passes1, passes2, complained, answered, qualified, contested, revealed, all_revealed, starts, phase_of, exposure_of};
-ghost use Rattle.board_index.specs.State.{board_of, is_indexed, look};
-ghost use Rattle.board_index.specs.Kept.{Kept};
-ghost use Rattle.board.specs.State.{state_of};
+ghost use Rattle.board_index.specs.State.{is_indexed, look};
+ghost use Rattle.board.specs.State.{board};
 ghost use Rattle.board.specs.Posting.{ValueIn, ShareIn, FirstIn};
 
 use crate::ceremony::Ceremony;
@@ -24,41 +23,36 @@ use sharing::linear::Linear;
 impl<'a, G: Group> Ceremony<'a, G> {
     // The number of seats, 0 before the ceremony is opened.
     pub fn n(&self) -> u8
-        requires { Kept G.meaning (state_of self.now) }
-        ensures { result ≡ (board_of G.meaning (state_of self.now)).n }
+        ensures { result ≡ (board self.now).n }
     {
         self.n
     }
 
     // The threshold.
     pub fn t(&self) -> u8
-        requires { Kept G.meaning (state_of self.now) }
-        ensures { result ≡ (board_of G.meaning (state_of self.now)).t }
+        ensures { result ≡ (board self.now).t }
     {
         self.t
     }
 
     pub fn phase(&self) -> Phase
-        requires { Kept G.meaning (state_of self.now) }
-        ensures { result ≡ phase_of G.meaning (board_of G.meaning (state_of self.now)) }
+        ensures { result ≡ phase_of G.meaning (board self.now) }
     {
         self.phase
     }
 
     // Whether a record of a kind, by a writer and naming a second seat, is taken.
     pub fn has(&self, kind: Kind, writer: u8, second: u8) -> bool
-        requires kept { Kept G.meaning (state_of self.now) }
         requires kind { is_indexed kind ≡ true }
-        ensures { result ≡ is_taken (board_of G.meaning (state_of self.now)).taken kind writer second }
+        ensures { result ≡ is_taken (board self.now).taken kind writer second }
     {
         self.index.find(kind, writer, second).is_some()
     }
 
     // The value at a seat of the elements in a dealer's Deal or Exposure.
     fn value_in(&self, kind: Kind, dealer: u8, seat: u8) -> Option<G::Element>
-        requires kept { Kept G.meaning (state_of self.now) }
         requires kind { (is_indexed kind ≡ true) × (layout_of kind ≡ Elements) }
-        ensures { ValueIn G.meaning G.number_of (entry (board_of G.meaning (state_of self.now)).taken kind dealer 0) seat result }
+        ensures { ValueIn G.meaning G.number_of (entry (board self.now).taken kind dealer 0) seat result }
     {
         let Some(place) = self.index.find(kind, dealer, 0) else {
             return None;
@@ -71,9 +65,8 @@ impl<'a, G: Group> Ceremony<'a, G> {
 
     // The share in an Answer, an Objection or a Reveal.
     pub fn share_in(&self, kind: Kind, writer: u8, second: u8) -> Option<Share<G>>
-        requires kept { Kept G.meaning (state_of self.now) }
         requires kind { (is_indexed kind ≡ true) × (layout_of kind ≡ SecondAndShare) }
-        ensures { ShareIn (λ x. (G.scalar_of x.left.value, G.scalar_of x.right.value)) (entry (board_of G.meaning (state_of self.now)).taken kind writer second) result }
+        ensures { ShareIn (λ x. (G.scalar_of x.left.value, G.scalar_of x.right.value)) (entry (board self.now).taken kind writer second) result }
     {
         let Some(place) = self.index.find(kind, writer, second) else {
             return None;
@@ -84,8 +77,7 @@ impl<'a, G: Group> Ceremony<'a, G> {
 
     // A_0 in a dealer's Exposure.
     pub fn first_exposed(&self, dealer: u8) -> Option<G::Element>
-        requires { Kept G.meaning (state_of self.now) }
-        ensures { FirstIn G.meaning.unit G.number_of (exposure_of (board_of G.meaning (state_of self.now)) dealer) result }
+        ensures { FirstIn G.meaning.unit G.number_of (exposure_of (board self.now) dealer) result }
     {
         let Some(place) = self.index.find(Kind::Exposure, dealer, 0) else {
             return None;
@@ -97,8 +89,7 @@ impl<'a, G: Group> Ceremony<'a, G> {
 
     // Equation 1, for a dealer, a seat and a share.
     pub fn opens(&self, dealer: u8, seat: u8, share: Share<G>) -> bool
-        requires kept { Kept G.meaning (state_of self.now) }
-        ensures { result ≡ passes1 G.meaning (board_of G.meaning (state_of self.now)) dealer seat (G.scalar_of share.left.value, G.scalar_of share.right.value) }
+        ensures { result ≡ passes1 G.meaning (board self.now) dealer seat (G.scalar_of share.left.value, G.scalar_of share.right.value) }
     {
         match self.value_in(Kind::Deal, dealer, seat) {
             Some(value) => G::equal(commit::<G>(share), value),
@@ -108,8 +99,7 @@ impl<'a, G: Group> Ceremony<'a, G> {
 
     // Equation 2.
     pub fn is_exposed(&self, dealer: u8, seat: u8, share: Share<G>) -> bool
-        requires kept { Kept G.meaning (state_of self.now) }
-        ensures { result ≡ passes2 G.meaning (board_of G.meaning (state_of self.now)) dealer seat (G.scalar_of share.left.value) }
+        ensures { result ≡ passes2 G.meaning (board self.now) dealer seat (G.scalar_of share.left.value) }
     {
         match self.value_in(Kind::Exposure, dealer, seat) {
             Some(value) => G::equal(power_of::<G>(G::g(), share.left.value), value),
@@ -119,9 +109,8 @@ impl<'a, G: Group> Ceremony<'a, G> {
 
     // How many seats have a record of a kind taken that names a dealer.
     pub fn count_naming(&self, kind: Kind, dealer: u8) -> u8
-        requires kept { Kept G.meaning (state_of self.now) }
         requires kind { is_indexed kind ≡ true }
-        ensures { result ≡ count (board_of G.meaning (state_of self.now)).n (λ j. is_taken (board_of G.meaning (state_of self.now)).taken kind j dealer) }
+        ensures { result ≡ count (board self.now).n (λ j. is_taken (board self.now).taken kind j dealer) }
     {
         let mut seats = 0;
         for j in 1..self.n + 1 {
@@ -134,8 +123,7 @@ impl<'a, G: Group> Ceremony<'a, G> {
 
     // Whether a dealer has answered a seat truly, if that seat complained of it.
     fn has_answered(&self, dealer: u8, seat: u8) -> bool
-        requires kept { Kept G.meaning (state_of self.now) }
-        ensures { result ≡ (not (complained (board_of G.meaning (state_of self.now)) seat dealer) || answered G.meaning (board_of G.meaning (state_of self.now)) dealer seat) }
+        ensures { result ≡ (not (complained (board self.now) seat dealer) || answered G.meaning (board self.now) dealer seat) }
     {
         if !self.has(Kind::Complaint, seat, dealer) {
             return true;
@@ -145,8 +133,7 @@ impl<'a, G: Group> Ceremony<'a, G> {
 
     // Whether a dealer has answered each complaint truly.
     fn has_answered_all(&self, dealer: u8) -> bool
-        requires kept { Kept G.meaning (state_of self.now) }
-        ensures { result ≡ every (board_of G.meaning (state_of self.now)).n (λ j. not (complained (board_of G.meaning (state_of self.now)) j dealer) || answered G.meaning (board_of G.meaning (state_of self.now)) dealer j) }
+        ensures { result ≡ every (board self.now).n (λ j. not (complained (board self.now) j dealer) || answered G.meaning (board self.now) dealer j) }
     {
         for j in 1..self.n + 1 {
             if !self.has_answered(dealer, j) {
@@ -158,8 +145,7 @@ impl<'a, G: Group> Ceremony<'a, G> {
 
     // Whether a dealer is qualified, by the records taken so far.
     pub fn is_qualified(&self, dealer: u8) -> bool
-        requires kept { Kept G.meaning (state_of self.now) }
-        ensures { result ≡ qualified G.meaning (board_of G.meaning (state_of self.now)) dealer }
+        ensures { result ≡ qualified G.meaning (board self.now) dealer }
     {
         if !self.has(Kind::Deal, dealer, 0) {
             return false;
@@ -172,8 +158,7 @@ impl<'a, G: Group> Ceremony<'a, G> {
 
     // How many dealers are qualified.
     pub fn qualified_count(&self) -> u8
-        requires kept { Kept G.meaning (state_of self.now) }
-        ensures { result ≡ count (board_of G.meaning (state_of self.now)).n (qualified G.meaning (board_of G.meaning (state_of self.now))) }
+        ensures { result ≡ count (board self.now).n (qualified G.meaning (board self.now)) }
     {
         let mut dealers = 0;
         for i in 1..self.n + 1 {
@@ -186,8 +171,7 @@ impl<'a, G: Group> Ceremony<'a, G> {
 
     // Whether the phase of the objections has ended.
     fn are_objections_closed(&self) -> bool
-        requires kept { Kept G.meaning (state_of self.now) }
-        ensures { result ≡ nat_lt 5 (starts (board_of G.meaning (state_of self.now)).taken) }
+        ensures { result ≡ nat_lt 5 (starts (board self.now).taken) }
     {
         match self.phase {
             Phase::Revealing | Phase::Finished => true,
@@ -197,8 +181,7 @@ impl<'a, G: Group> Ceremony<'a, G> {
 
     // Whether a dealer is contested: objected to or, once the objections are closed, without an Exposure.
     pub fn is_contested(&self, dealer: u8) -> bool
-        requires kept { Kept G.meaning (state_of self.now) }
-        ensures { result ≡ contested G.meaning (board_of G.meaning (state_of self.now)) dealer }
+        ensures { result ≡ contested G.meaning (board self.now) dealer }
     {
         if !self.is_qualified(dealer) {
             return false;
@@ -214,8 +197,7 @@ impl<'a, G: Group> Ceremony<'a, G> {
 
     // Whether a dealer has Reveals of t + 1 seats, if it is contested.
     fn is_revealed(&self, dealer: u8) -> bool
-        requires kept { Kept G.meaning (state_of self.now) }
-        ensures { result ≡ (not (contested G.meaning (board_of G.meaning (state_of self.now)) dealer) || nat_le ((board_of G.meaning (state_of self.now)).t + 1) (count (board_of G.meaning (state_of self.now)).n (λ j. revealed (board_of G.meaning (state_of self.now)) j dealer))) }
+        ensures { result ≡ (not (contested G.meaning (board self.now) dealer) || nat_le ((board self.now).t + 1) (count (board self.now).n (λ j. revealed (board self.now) j dealer))) }
     {
         if !self.is_contested(dealer) {
             return true;
@@ -225,8 +207,7 @@ impl<'a, G: Group> Ceremony<'a, G> {
 
     // Whether each contested dealer has Reveals of t + 1 seats.
     pub fn are_all_revealed(&self) -> bool
-        requires kept { Kept G.meaning (state_of self.now) }
-        ensures { result ≡ all_revealed G.meaning (board_of G.meaning (state_of self.now)) }
+        ensures { result ≡ all_revealed G.meaning (board self.now) }
     {
         for i in 1..self.n + 1 {
             if !self.is_revealed(i) {

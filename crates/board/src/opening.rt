@@ -2,12 +2,11 @@
 ghost use Rattle.std.specs.Prelude.{◌≡◌, ◌≤◌, List, length, None};
 ghost use Rattle.protocol.specs.Board.{empty};
 ghost use Rattle.protocol.specs.Refusals.{area_needed, opening_fault};
-ghost use Rattle.board_index.specs.State.{board_of};
-ghost use Rattle.board_index.specs.Kept.{Kept};
-ghost use Rattle.board.specs.State.{state_of};
+ghost use Rattle.board.specs.State.{board, state_of};
 ghost use Rattle.board.specs.Posting.{fault_of, opening_answer, AfterOpening};
 
 use crate::ceremony::Ceremony;
+use crate::posting::append;
 use board_index::index::Index;
 use frames::frame::read_frame;
 use group::codes::read_code;
@@ -30,8 +29,7 @@ impl<'a, G: Group> Ceremony<'a, G> {
     // A ceremony over an area, unopened.
     pub fn new(area: &'a mut [u8]) -> Ceremony<'a, G>
         ensures area { ((state_of result).area ≡ area.old) × ((state_of result).used ≡ 0) }
-        ensures board { board_of G.meaning (state_of result) ≡ empty }
-        ensures kept { Kept G.meaning (state_of result) }
+        ensures board { board result ≡ empty }
         ensures lender { result.area.ghost_name ≡ area.entry.ghost_name }
     {
         Ceremony {
@@ -47,8 +45,7 @@ impl<'a, G: Group> Ceremony<'a, G> {
 
     // What is said against an Opening.
     fn check_opening(&self, bytes: &[u8]) -> Result<(), CeremonyFault>
-        requires { Kept G.meaning (state_of self.now) }
-        ensures { fault_of result ≡ opening_fault G.meaning (board_of G.meaning (state_of self.now)) (length self.now.area.now) bytes.now }
+        ensures { fault_of result ≡ opening_fault G.meaning (board self.now) (length self.now.area.now) bytes.now }
     {
         if read_frame(bytes)? != 1 {
             return Err(CeremonyFault::Record(RecordFault::Kind { place: 2 }));
@@ -78,15 +75,12 @@ impl<'a, G: Group> Ceremony<'a, G> {
 
     // Opens the ceremony: n, t and the label are those of the record.
     pub fn open(&mut self, bytes: &[u8]) -> Result<(), CeremonyFault>
-        requires { Kept G.meaning (state_of self.old) }
-        ensures answer { result ≡ opening_answer G.meaning (board_of G.meaning (state_of self.old)) (length (state_of self.old).area) bytes.now tt }
+        ensures answer { result ≡ opening_answer G.meaning (board self.old) (length (state_of self.old).area) bytes.now tt }
         ensures after { AfterOpening G.meaning (state_of self.old) bytes.now result (state_of self.new) }
-        ensures kept { Kept G.meaning (state_of self.new) }
         ensures lender { self.new.area.ghost_name ≡ self.old.area.ghost_name }
     {
-        let _of: PhantomData<G> = PhantomData;
         self.check_opening(bytes)?;
-        self.append(bytes);
+        self.used = append(self.area, self.used, bytes);
         self.n = bytes[6];
         self.t = bytes[7];
         self.phase = Phase::Dealing;

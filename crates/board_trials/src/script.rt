@@ -1,7 +1,5 @@
 // A script: records with what the ceremony answers to each, and what can be read off it in between.
 ghost use Rattle.std.specs.Prelude.{◌≡◌};
-ghost use Rattle.board_index.specs.Kept.{Kept};
-ghost use Rattle.board.specs.State.{state_of};
 
 use super::record::{Record, write_record};
 use board::ceremony::Ceremony;
@@ -16,7 +14,6 @@ use readings::key::write_key;
 use readings::reveals::revealed_share;
 use readings::seats::seat_list;
 use sharing::commitment::Share;
-use std::marker::PhantomData;
 use std::process::Abort;
 use std::test::Fail;
 
@@ -73,8 +70,6 @@ pub(super) fn check_refused<T: Drop>(
 
 // Hands a record to the opening call or to the posting call.
 fn hand<G: Group>(ceremony: &mut Ceremony<'_, G>, record: Record) -> Result<u8, CeremonyFault>
-    requires { Kept G.meaning (state_of ceremony.old) }
-    ensures kept { Kept G.meaning (state_of ceremony.new) }
     ensures lender { ceremony.new.area.ghost_name ≡ ceremony.old.area.ghost_name }
 {
     let mut bytes = [0; 32];
@@ -100,7 +95,6 @@ fn check_seats<G: Group>(
     ceremony: &Ceremony<'_, G>,
     seats: &[(SeatState, u8)],
 ) -> Result<(), Fail>
-    requires { Kept G.meaning (state_of ceremony.now) }
 {
     let mut rows = [UNWRITTEN; 8];
     seat_list(ceremony, &mut rows)?;
@@ -118,7 +112,6 @@ fn check_no_seats<G: Group>(
     rows: &mut [SeatRow],
     number: u8,
 ) -> Result<(), Fail>
-    requires { Kept G.meaning (state_of ceremony.now) }
 {
     check_refused(rt, seat_list(ceremony, rows), number, 0, 0)?;
     for row in rows {
@@ -133,7 +126,6 @@ fn check_code<G: Group>(
     ceremony: &Ceremony<'_, G>,
     code: [u8; 4],
 ) -> Result<(), Fail>
-    requires { Kept G.meaning (state_of ceremony.now) }
 {
     let mut out = [0xFF; 4];
     check_refused(rt, write_key(ceremony, &mut out[0..1]), 14, 0, 0)?;
@@ -144,7 +136,6 @@ fn check_code<G: Group>(
 }
 
 fn check_key<G: Group>(rt: &impl Abort, ceremony: &Ceremony<'_, G>, log: u32) -> Result<(), Fail>
-    requires { Kept G.meaning (state_of ceremony.now) }
 {
     let mut code = [0xFF; 4];
     write_element::<G>(power_of::<G>(G::g(), G::reduced(log)), &mut code, 0);
@@ -153,7 +144,6 @@ fn check_key<G: Group>(rt: &impl Abort, ceremony: &Ceremony<'_, G>, log: u32) ->
 
 // Refused, and the output stays.
 fn check_no_key<G: Group>(rt: &impl Abort, ceremony: &Ceremony<'_, G>) -> Result<(), Fail>
-    requires { Kept G.meaning (state_of ceremony.now) }
 {
     let mut out = [0xFF; 4];
     check_refused(rt, write_key(ceremony, &mut out), 4, 0, 0)?;
@@ -174,7 +164,6 @@ fn check_share<G: Group>(
     dealer: u8,
     share: (u32, u32),
 ) -> Result<(), Fail>
-    requires { Kept G.meaning (state_of ceremony.now) }
 {
     let revealed = numbers_of::<G>(revealed_share(ceremony, dealer));
     assert_eq!(rt; revealed.0, share.0);
@@ -187,11 +176,8 @@ fn take_step<G: Group>(
     ceremony: &mut Ceremony<'_, G>,
     step: Step,
 ) -> Result<(), Fail>
-    requires { Kept G.meaning (state_of ceremony.old) }
-    ensures kept { Kept G.meaning (state_of ceremony.new) }
     ensures lender { ceremony.new.area.ghost_name ≡ ceremony.old.area.ghost_name }
 {
-    let _of: PhantomData<G> = PhantomData;
     match step {
         Step::Taken(record, equations) => {
             let counted = hand(ceremony, record)?;
@@ -220,11 +206,8 @@ pub(super) fn play<G: Group>(
     ceremony: &mut Ceremony<'_, G>,
     script: &[Step],
 ) -> Result<(), Fail>
-    requires { Kept G.meaning (state_of ceremony.old) }
-    ensures kept { Kept G.meaning (state_of ceremony.new) }
     ensures lender { ceremony.new.area.ghost_name ≡ ceremony.old.area.ghost_name }
 {
-    let _of: PhantomData<G> = PhantomData;
     for step in script {
         take_step(rt, ceremony, *step)?;
     }

@@ -1,7 +1,5 @@
 // A refusal changes nothing: two ceremonies are posted the same records, but for those that the first one refuses.
 ghost use Rattle.std.specs.Prelude.{◌≡◌, ◌≤◌};
-ghost use Rattle.board_index.specs.Kept.{Kept};
-ghost use Rattle.board.specs.State.{state_of};
 
 use super::record::{Record, write_record};
 use super::script::{Step, play};
@@ -13,7 +11,6 @@ use protocol::row::SeatRow;
 use protocol::state::SeatState;
 use readings::seats::seat_list;
 use residues::Residues;
-use std::marker::PhantomData;
 use std::process::Abort;
 use std::test::Fail;
 
@@ -165,8 +162,6 @@ fn check_same<G: Group>(
     first: &Ceremony<'_, G>,
     second: &Ceremony<'_, G>,
 ) -> Result<(), Fail>
-    requires first { Kept G.meaning (state_of first.now) }
-    requires second { Kept G.meaning (state_of second.now) }
 {
     assert_eq!(rt; first.n(), second.n());
     assert_eq!(rt; first.t(), second.t());
@@ -191,12 +186,9 @@ fn post_both<G: Group>(
     bytes: &[u8],
     seen: &mut Seen,
 ) -> Result<(), Fail>
-    requires first { Kept G.meaning (state_of first.old) }
-    requires second { Kept G.meaning (state_of second.old) }
-    ensures first { (Kept G.meaning (state_of first.new)) × (first.new.area.ghost_name ≡ first.old.area.ghost_name) }
-    ensures second { (Kept G.meaning (state_of second.new)) × (second.new.area.ghost_name ≡ second.old.area.ghost_name) }
+    ensures first { first.new.area.ghost_name ≡ first.old.area.ghost_name }
+    ensures second { second.new.area.ghost_name ≡ second.old.area.ghost_name }
 {
-    let _of: PhantomData<G> = PhantomData;
     count_one(&mut seen.phases, first.phase().number());
     match first.post(bytes) {
         Ok(equations) => {
@@ -219,12 +211,9 @@ fn post_turns<G: Group>(
     seed: u32,
     seen: &mut Seen,
 ) -> Result<(), Fail>
-    requires first { Kept G.meaning (state_of first.old) }
-    requires second { Kept G.meaning (state_of second.old) }
-    ensures first { (Kept G.meaning (state_of first.new)) × (first.new.area.ghost_name ≡ first.old.area.ghost_name) }
-    ensures second { (Kept G.meaning (state_of second.new)) × (second.new.area.ghost_name ≡ second.old.area.ghost_name) }
+    ensures first { first.new.area.ghost_name ≡ first.old.area.ghost_name }
+    ensures second { second.new.area.ghost_name ≡ second.old.area.ghost_name }
 {
-    let _of: PhantomData<G> = PhantomData;
     play(rt, first, OPENED)?;
     play(rt, second, OPENED)?;
     let mut random = seed;

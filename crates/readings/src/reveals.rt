@@ -2,9 +2,7 @@
 ghost use Rattle.std.specs.Prelude.{◌≡◌, ◌+◌, ◌*◌, ◌≤◌, map, length, take};
 ghost use Rattle.protocol.specs.Board.{revealed_share};
 ghost use Rattle.protocol.specs.Custodian.{pair_codes};
-ghost use Rattle.board_index.specs.State.{board_of};
-ghost use Rattle.board_index.specs.Kept.{Kept};
-ghost use Rattle.board.specs.State.{state_of};
+ghost use Rattle.board.specs.State.{board};
 ghost use Rattle.readings.specs.Outputs.{written_in};
 ghost use Rattle.readings.specs.Serving.{serving_seats, share_of};
 
@@ -17,10 +15,9 @@ use sharing::linear::Linear;
 
 // Finds the lowest seats that have revealed for a dealer, t + 1 at most, and tells how many they are.
 fn find_serving<G: Group>(ceremony: &Ceremony<'_, G>, dealer: u8, seats: &mut [u8]) -> usize
-    requires kept { Kept G.meaning (state_of ceremony.now) }
     requires room { 16 ≤ length seats.old }
     ensures within { result ≤ 16 }
-    ensures seats { take result seats.new ≡ serving_seats (board_of G.meaning (state_of ceremony.now)) dealer }
+    ensures seats { take result seats.new ≡ serving_seats (board ceremony.now) dealer }
 {
     let t = ceremony.t() as usize;
     let mut count = 0;
@@ -35,8 +32,7 @@ fn find_serving<G: Group>(ceremony: &Ceremony<'_, G>, dealer: u8, seats: &mut [u
 
 // The share that a seat has revealed for a dealer, two zeros where it has revealed none.
 fn share_of<G: Group>(ceremony: &Ceremony<'_, G>, dealer: u8, seat: u8) -> Share<G>
-    requires { Kept G.meaning (state_of ceremony.now) }
-    ensures { (G.scalar_of result.left.value, G.scalar_of result.right.value) ≡ share_of (board_of G.meaning (state_of ceremony.now)) dealer seat }
+    ensures { (G.scalar_of result.left.value, G.scalar_of result.right.value) ≡ share_of (board ceremony.now) dealer seat }
 {
     match ceremony.share_in(Kind::Reveal, seat, dealer) {
         Some(share) => share,
@@ -46,9 +42,8 @@ fn share_of<G: Group>(ceremony: &Ceremony<'_, G>, dealer: u8, seat: u8) -> Share
 
 // Writes the shares of these seats one after another.
 fn write_shares<G: Group>(ceremony: &Ceremony<'_, G>, dealer: u8, seats: &[u8], out: &mut [u8])
-    requires kept { Kept G.meaning (state_of ceremony.now) }
     requires room { length seats.now * (G.meaning.s + G.meaning.s) ≤ length out.old }
-    ensures { out.new ≡ written_in out.old (pair_codes G.meaning.s (map (share_of (board_of G.meaning (state_of ceremony.now)) dealer) seats.now)) }
+    ensures { out.new ≡ written_in out.old (pair_codes G.meaning.s (map (share_of (board ceremony.now) dealer) seats.now)) }
 {
     let width = <Share<G> as Linear<G>>::code_width();
     for k in 0..seats.len() {
@@ -58,8 +53,7 @@ fn write_shares<G: Group>(ceremony: &Ceremony<'_, G>, dealer: u8, seats: &[u8], 
 
 // The share (z, z') that the serving Reveals for a dealer interpolate to.
 pub fn revealed_share<G: Group>(ceremony: &Ceremony<'_, G>, dealer: u8) -> Share<G>
-    requires { Kept G.meaning (state_of ceremony.now) }
-    ensures { (G.scalar_of result.left.value, G.scalar_of result.right.value) ≡ revealed_share G.meaning (board_of G.meaning (state_of ceremony.now)) dealer }
+    ensures { (G.scalar_of result.left.value, G.scalar_of result.right.value) ≡ revealed_share G.meaning (board ceremony.now) dealer }
 {
     // t is 15 at most, and a share has two codes of four bytes at most.
     let mut serving = [0; 16];

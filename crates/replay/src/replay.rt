@@ -1,8 +1,6 @@
 ghost use Rattle.std.specs.Prelude.{◌≡◌};
 ghost use Rattle.protocol.specs.Refusals.{replayed as board_replayed, equations_replayed};
-ghost use Rattle.board_index.specs.State.{board_of};
-ghost use Rattle.board_index.specs.Kept.{Kept};
-ghost use Rattle.board.specs.State.{state_of};
+ghost use Rattle.board.specs.State.{board, state_of};
 ghost use Rattle.replay.specs.Files.{frames_of, broken_at, taken_of, refused_of, area_of, area_replayed, Whole};
 
 use crate::replayed::Replayed;
@@ -26,14 +24,12 @@ fn frame_size(bytes: &[u8]) -> Option<usize>
 
 // Posts the records of a file, and stops at the first frame that is broken.
 pub fn replay<G: Group>(ceremony: &mut Ceremony<'_, G>, file: &[u8]) -> Replayed
-    requires { Kept G.meaning (state_of ceremony.old) }
-    ensures board { board_of G.meaning (state_of ceremony.new) ≡ board_replayed G.meaning (board_of G.meaning (state_of ceremony.old)) (frames_of file.now) }
+    ensures board { board ceremony.new ≡ board_replayed G.meaning (board ceremony.old) (frames_of file.now) }
     ensures area { area_of (state_of ceremony.new) ≡ area_replayed G.meaning (area_of (state_of ceremony.old)) (frames_of file.now) }
-    ensures equations { result.equations ≡ equations_replayed G.meaning (board_of G.meaning (state_of ceremony.old)) (frames_of file.now) }
-    ensures taken { result.taken ≡ taken_of G.meaning (board_of G.meaning (state_of ceremony.old)) (frames_of file.now) }
-    ensures refused { result.refused ≡ refused_of G.meaning (board_of G.meaning (state_of ceremony.old)) (frames_of file.now) }
+    ensures equations { result.equations ≡ equations_replayed G.meaning (board ceremony.old) (frames_of file.now) }
+    ensures taken { result.taken ≡ taken_of G.meaning (board ceremony.old) (frames_of file.now) }
+    ensures refused { result.refused ≡ refused_of G.meaning (board ceremony.old) (frames_of file.now) }
     ensures broken { result.broken ≡ broken_at file.now }
-    ensures kept { Kept G.meaning (state_of ceremony.new) }
     ensures lender { ceremony.new.area.ghost_name ≡ ceremony.old.area.ghost_name }
 {
     let mut at = 0;

@@ -1,7 +1,5 @@
 // A whole board, record by record, from its Opening to the key.
 ghost use Rattle.std.specs.Prelude.{◌≡◌};
-ghost use Rattle.board_index.specs.Kept.{Kept};
-ghost use Rattle.board.specs.State.{state_of};
 
 use crate::print_bytes;
 use board::ceremony::Ceremony;
@@ -41,8 +39,6 @@ fn print_refusal(rt: HostRuntime, what: &str, fault: CeremonyFault) -> io::Resul
 
 // Opens the ceremony with an Opening, and posts any other record; tells how many equations were tested.
 fn give<G: Group>(ceremony: &mut Ceremony<'_, G>, bytes: &[u8]) -> Result<u8, CeremonyFault>
-    requires { Kept G.meaning (state_of ceremony.old) }
-    ensures kept { Kept G.meaning (state_of ceremony.new) }
     ensures lender { ceremony.new.area.ghost_name ≡ ceremony.old.area.ghost_name }
 {
     if let [_, _, 1, 0, ..] = bytes {
@@ -58,8 +54,6 @@ fn give_all<G: Group>(
     ceremony: &mut Ceremony<'_, G>,
     records: &[&[u8]],
 ) -> io::Result<()>
-    requires { Kept G.meaning (state_of ceremony.old) }
-    ensures kept { Kept G.meaning (state_of ceremony.new) }
     ensures lender { ceremony.new.area.ghost_name ≡ ceremony.old.area.ghost_name }
 {
     for bytes in records {
@@ -84,7 +78,6 @@ fn print_row(rt: HostRuntime, seat: usize, row: SeatRow) -> io::Result<()> {
 
 // Prints the list of five seats.
 fn print_seats<G: Group>(rt: HostRuntime, ceremony: &Ceremony<'_, G>) -> io::Result<()>
-    requires { Kept G.meaning (state_of ceremony.now) }
 {
     let mut rows = [SeatRow {
         state: SeatState::Absent,
@@ -100,7 +93,6 @@ fn print_seats<G: Group>(rt: HostRuntime, ceremony: &Ceremony<'_, G>) -> io::Res
 }
 
 fn print_key<G: Group>(rt: HostRuntime, ceremony: &Ceremony<'_, G>) -> io::Result<()>
-    requires { Kept G.meaning (state_of ceremony.now) }
 {
     let mut code = [0u8; 4];
     match write_key(ceremony, &mut code) {

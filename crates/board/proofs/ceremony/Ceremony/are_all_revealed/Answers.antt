@@ -17,7 +17,7 @@ unfolding all_revealed
 returns-then-not-is_revealed g c =
     let m = g.G.Group.meaning in
     let b = board_of m (state_of c.args.self.now) in
-    let n : c.args.self.now.n ≡ b.n = c.requires.kept.n in
+    let n : c.args.self.now.n ≡ b.n = c.args.self.now.kept.n in
     every_stops (λ i. not (contested m b i) || leb (b.t + 1) (count b.n (λ j. revealed b j i))) b.n c.loop-i.i c.loop-i.auto.i (omega (arith, c.loop-i-test.true))
     (sym c.is_revealed.ensures ∙ c.if-not-is_revealed.true)
 
@@ -33,6 +33,6 @@ unfolding all_revealed
 returns g c =
     let m = g.G.Group.meaning in
     let b = board_of m (state_of c.args.self.now) in
-    let n : c.args.self.now.n ≡ b.n = c.requires.kept.n in
+    let n : c.args.self.now.n ≡ b.n = c.args.self.now.kept.n in
     let end : c.loop-i.i - 1 ≡ b.n = omega (arith, c.loop-i-test.false, c.loop-i.auto.i-end (omega arith)) in
     sym (ap (λ (k : ℕ). every k (λ i. not (contested m b i) || leb (b.t + 1) (count b.n (λ j. revealed b j i)))) (sym end) ∙ c.loop-i.invariant)

@@ -7,17 +7,17 @@ use Rattle.board.proofs.ceremony.Ceremony.check_close.Goals as goal
 pub returns-then-bytes-phase : goal.returns-then-bytes-phase
 unfolding first_fault
 returns-then-bytes-phase g c =
-    let h = behind_close g.G.Group.meaning (state_of c.args.self.now) c.args.bytes.now c.requires.kept c.requires.kind c.requires.phase.0 c.requires.phase.1 in
+    let h = behind_close g.G.Group.meaning (state_of c.args.self.now) c.args.bytes.now c.args.self.now.kept c.requires.kind c.requires.phase.0 c.requires.phase.1 in
     search rules
 
 pub returns-then-not-are_all_revealed : goal.returns-then-not-are_all_revealed
 unfolding first_fault
 returns-then-not-are_all_revealed g c =
-    let h = behind_close g.G.Group.meaning (state_of c.args.self.now) c.args.bytes.now c.requires.kept c.requires.kind c.requires.phase.0 c.requires.phase.1 in
+    let h = behind_close g.G.Group.meaning (state_of c.args.self.now) c.args.bytes.now c.args.self.now.kept c.requires.kind c.requires.phase.0 c.requires.phase.1 in
     search rules
 
 pub returns : goal.returns
 unfolding first_fault
 returns g c =
-    let h = behind_close g.G.Group.meaning (state_of c.args.self.now) c.args.bytes.now c.requires.kept c.requires.kind c.requires.phase.0 c.requires.phase.1 in
+    let h = behind_close g.G.Group.meaning (state_of c.args.self.now) c.args.bytes.now c.args.self.now.kept c.requires.kind c.requires.phase.0 c.requires.phase.1 in
     search rules

@@ -16,7 +16,7 @@ overflow_add-seats g c =
     let P : ℕ → Bool = λ j. has (board_of g.G.Group.meaning (state_of c.args.self.now)).taken c.args.kind j c.args.dealer in
     let low = count_below (c.loop-j.j - 1) P in
     let so : c.loop-j.seats ≡ count (c.loop-j.j - 1) P = c.loop-j.invariant in
-    let few = c.requires.kept.few in
+    let few = c.args.self.now.kept.few in
     omega (arith, c.loop-j-test.true)
 
 pub loop-j-preserved : goal.loop-j-preserved
@@ -30,6 +30,6 @@ loop-j-preserved g c =
 pub returns : goal.returns
 returns g c =
     let P : ℕ → Bool = λ j. has (board_of g.G.Group.meaning (state_of c.args.self.now)).taken c.args.kind j c.args.dealer in
-    let n = c.requires.kept.n in
+    let n = c.args.self.now.kept.n in
     let end : c.loop-j.j - 1 ≡ c.args.self.now.n = omega (arith, c.loop-j-test.false, c.loop-j.auto.j-end (omega arith)) in
     c.loop-j.invariant ∙ ap (λ (k : ℕ). count k P) (end ∙ n)

@@ -16,7 +16,7 @@ pub returns-then-not-has_answered : goal.returns-then-not-has_answered
 returns-then-not-has_answered g c =
     let m = g.G.Group.meaning in
     let b = board_of m (state_of c.args.self.now) in
-    let n : c.args.self.now.n ≡ b.n = c.requires.kept.n in
+    let n : c.args.self.now.n ≡ b.n = c.args.self.now.kept.n in
     every_stops (λ j. not (complained b j c.args.dealer) || answered m b c.args.dealer j) b.n c.loop-j.j c.loop-j.auto.j (omega (arith, c.loop-j-test.true))
     (sym c.has_answered.ensures ∙ c.if-not-has_answered.true)
 
@@ -31,6 +31,6 @@ pub returns : goal.returns
 returns g c =
     let m = g.G.Group.meaning in
     let b = board_of m (state_of c.args.self.now) in
-    let n : c.args.self.now.n ≡ b.n = c.requires.kept.n in
+    let n : c.args.self.now.n ≡ b.n = c.args.self.now.kept.n in
     let end : c.loop-j.j - 1 ≡ b.n = omega (arith, c.loop-j-test.false, c.loop-j.auto.j-end (omega arith)) in
     sym (ap (λ (k : ℕ). every k (λ j. not (complained b j c.args.dealer) || answered m b c.args.dealer j)) (sym end) ∙ c.loop-j.invariant)

@@ -13,13 +13,13 @@ pub returns-then-count_naming-self : goal.returns-then-count_naming-self
 returns-then-count_naming-self g c =
     let b = board_of g.G.Group.meaning (state_of c.args.self.now) in
     let k : c.count_naming.result ≡ complaints b c.args.dealer = c.count_naming.ensures in
-    let t : c.args.self.now.t ≡ b.t = c.requires.kept.t in
+    let t : c.args.self.now.t ≡ b.t = c.args.self.now.kept.t in
     many_complaints g.G.Group.meaning b c.args.dealer (omega (arith, c.if-count_naming-self.true))
 
 pub returns : goal.returns
 returns g c =
     let b = board_of g.G.Group.meaning (state_of c.args.self.now) in
     let k : c.count_naming.result ≡ complaints b c.args.dealer = c.count_naming.ensures in
-    let t : c.args.self.now.t ≡ b.t = c.requires.kept.t in
+    let t : c.args.self.now.t ≡ b.t = c.args.self.now.kept.t in
     c.has_answered_all.ensures
     ∙ by_answers g.G.Group.meaning b c.args.dealer (sym c.has.ensures ∙ c.if-not-has.false) (omega (arith, c.if-count_naming-self.false))

@@ -11,7 +11,6 @@ opens_in-requires g c =
     let m = g.G.Group.meaning in
     let size = c.requires.kind.size ∙ ap (λ (k : Kind). 2 + length_of m c.args.self.now.t (layout_of k)) c.in-Answer.is in
     record {
-      kept = c.requires.kept;
       within = omega (arith, size);
       judged = answer_judged m (board_of m (state_of c.args.self.now)) c.args.bytes.now c.requires.taken (c.requires.kind.named ∙ ap (λ (k : Kind). Some k) c.in-Answer.is);
     }

@@ -16,9 +16,8 @@ returns-in-Unopened g c =
     let m = g.G.Group.meaning in
     let b = board_of m (state_of c.args.self.now) in
     record {
-      answer = ap (λ (o : Option CeremonyFault). answer_of o (equations_taken (kind_with (kind_field c.args.bytes.now)))) (not_opened m b c.args.bytes.now (ap phase_number (sym c.requires.phase ∙ c.in-Unopened.is)));
+      answer = ap (λ (o : Option CeremonyFault). answer_of o (equations_taken (kind_with (kind_field c.args.bytes.now)))) (not_opened m b c.args.bytes.now (ap phase_number (sym c.args.self.now.kept.phase ∙ c.in-Unopened.is)));
       after = refl;
-      kept = c.requires;
       lender = refl;
     }
 
@@ -29,12 +28,11 @@ returns-in_err-kind g c =
     let bytes = c.args.bytes.now in
     let p = err_from_is_err_and c.from_residual.result c.from_residual.ensures.1 in
     let fault = c.in_err-kind.field-0.0 in
-    let opened : phase_number (phase_of m (board_of m S)) ≡ 0 → ⊥ = λ none. begun c.args.self.now.phase c.in_default.not-Unopened (ap phase_number c.requires.phase ∙ none) in
-    let told = misread m (board_of m S) bytes fault opened (subst (λ (t : ℕ). Misread m t bytes fault) c.requires.t c.in_err-kind.ensures) in
+    let opened : phase_number (phase_of m (board_of m S)) ≡ 0 → ⊥ = λ none. begun c.args.self.now.phase c.in_default.not-Unopened (ap phase_number c.args.self.now.kept.phase ∙ none) in
+    let told = misread m (board_of m S) bytes fault opened (subst (λ (t : ℕ). Misread m t bytes fault) c.args.self.now.kept.t c.in_err-kind.ensures) in
     record {
       answer = p.1 ∙ ap (λ (f : CeremonyFault). Err f) p.2 ∙ ap (λ (o : Option CeremonyFault). answer_of o (equations_taken (kind_with (kind_field bytes)))) told;
       after = subst (λ (r : Result ℕ CeremonyFault). AfterPosting m S bytes r S) (sym p.1) refl;
-      kept = c.requires;
       lender = refl;
     }
 
@@ -44,9 +42,8 @@ returns-in_default-2 g c =
     let S = state_of c.args.self.now in
     let away : is_home c.args.self.now.phase c.in_ok-kind.kind ≡ false = search rules in
     record {
-      answer = ap (λ (o : Option CeremonyFault). answer_of o (equations_taken (kind_with (kind_field c.args.bytes.now)))) (out_of_phase m S c.args.bytes.now c.in_ok-kind.kind c.requires c.in_ok-kind.ensures (begun c.args.self.now.phase c.in_default.not-Unopened) away);
+      answer = ap (λ (o : Option CeremonyFault). answer_of o (equations_taken (kind_with (kind_field c.args.bytes.now)))) (out_of_phase m S c.args.bytes.now c.in_ok-kind.kind c.args.self.now.kept c.in_ok-kind.ensures (begun c.args.self.now.phase c.in_default.not-Unopened) away);
       after = refl;
-      kept = c.requires;
       lender = refl;
     }
 
@@ -56,9 +53,8 @@ returns-in_default-2-2 g c =
     let S = state_of c.args.self.now in
     let away : is_home c.args.self.now.phase c.in_ok-kind.kind ≡ false = search rules in
     record {
-      answer = ap (λ (o : Option CeremonyFault). answer_of o (equations_taken (kind_with (kind_field c.args.bytes.now)))) (out_of_phase m S c.args.bytes.now c.in_ok-kind.kind c.requires c.in_ok-kind.ensures (begun c.args.self.now.phase c.in_default.not-Unopened) away);
+      answer = ap (λ (o : Option CeremonyFault). answer_of o (equations_taken (kind_with (kind_field c.args.bytes.now)))) (out_of_phase m S c.args.bytes.now c.in_ok-kind.kind c.args.self.now.kept c.in_ok-kind.ensures (begun c.args.self.now.phase c.in_default.not-Unopened) away);
       after = refl;
-      kept = c.requires;
       lender = refl;
     }
 
@@ -68,9 +64,8 @@ returns-in_default-2-3 g c =
     let S = state_of c.args.self.now in
     let away : is_home c.args.self.now.phase c.in_ok-kind.kind ≡ false = search rules in
     record {
-      answer = ap (λ (o : Option CeremonyFault). answer_of o (equations_taken (kind_with (kind_field c.args.bytes.now)))) (out_of_phase m S c.args.bytes.now c.in_ok-kind.kind c.requires c.in_ok-kind.ensures (begun c.args.self.now.phase c.in_default.not-Unopened) away);
+      answer = ap (λ (o : Option CeremonyFault). answer_of o (equations_taken (kind_with (kind_field c.args.bytes.now)))) (out_of_phase m S c.args.bytes.now c.in_ok-kind.kind c.args.self.now.kept c.in_ok-kind.ensures (begun c.args.self.now.phase c.in_default.not-Unopened) away);
       after = refl;
-      kept = c.requires;
       lender = refl;
     }
 
@@ -80,9 +75,8 @@ returns-in_default-2-4 g c =
     let S = state_of c.args.self.now in
     let away : is_home c.args.self.now.phase c.in_ok-kind.kind ≡ false = search rules in
     record {
-      answer = ap (λ (o : Option CeremonyFault). answer_of o (equations_taken (kind_with (kind_field c.args.bytes.now)))) (out_of_phase m S c.args.bytes.now c.in_ok-kind.kind c.requires c.in_ok-kind.ensures (begun c.args.self.now.phase c.in_default.not-Unopened) away);
+      answer = ap (λ (o : Option CeremonyFault). answer_of o (equations_taken (kind_with (kind_field c.args.bytes.now)))) (out_of_phase m S c.args.bytes.now c.in_ok-kind.kind c.args.self.now.kept c.in_ok-kind.ensures (begun c.args.self.now.phase c.in_default.not-Unopened) away);
       after = refl;
-      kept = c.requires;
       lender = refl;
     }
 
@@ -92,9 +86,8 @@ returns-in_default-2-5 g c =
     let S = state_of c.args.self.now in
     let away : is_home c.args.self.now.phase c.in_ok-kind.kind ≡ false = search rules in
     record {
-      answer = ap (λ (o : Option CeremonyFault). answer_of o (equations_taken (kind_with (kind_field c.args.bytes.now)))) (out_of_phase m S c.args.bytes.now c.in_ok-kind.kind c.requires c.in_ok-kind.ensures (begun c.args.self.now.phase c.in_default.not-Unopened) away);
+      answer = ap (λ (o : Option CeremonyFault). answer_of o (equations_taken (kind_with (kind_field c.args.bytes.now)))) (out_of_phase m S c.args.bytes.now c.in_ok-kind.kind c.args.self.now.kept c.in_ok-kind.ensures (begun c.args.self.now.phase c.in_default.not-Unopened) away);
       after = refl;
-      kept = c.requires;
       lender = refl;
     }
 
@@ -104,9 +97,8 @@ returns-in_default-2-6 g c =
     let S = state_of c.args.self.now in
     let away : is_home c.args.self.now.phase c.in_ok-kind.kind ≡ false = search rules in
     record {
-      answer = ap (λ (o : Option CeremonyFault). answer_of o (equations_taken (kind_with (kind_field c.args.bytes.now)))) (out_of_phase m S c.args.bytes.now c.in_ok-kind.kind c.requires c.in_ok-kind.ensures (begun c.args.self.now.phase c.in_default.not-Unopened) away);
+      answer = ap (λ (o : Option CeremonyFault). answer_of o (equations_taken (kind_with (kind_field c.args.bytes.now)))) (out_of_phase m S c.args.bytes.now c.in_ok-kind.kind c.args.self.now.kept c.in_ok-kind.ensures (begun c.args.self.now.phase c.in_default.not-Unopened) away);
       after = refl;
-      kept = c.requires;
       lender = refl;
     }
 
@@ -116,8 +108,7 @@ returns-in_default-2-7 g c =
     let S = state_of c.args.self.now in
     let away : is_home c.args.self.now.phase c.in_ok-kind.kind ≡ false = search rules in
     record {
-      answer = ap (λ (o : Option CeremonyFault). answer_of o (equations_taken (kind_with (kind_field c.args.bytes.now)))) (out_of_phase m S c.args.bytes.now c.in_ok-kind.kind c.requires c.in_ok-kind.ensures (begun c.args.self.now.phase c.in_default.not-Unopened) away);
+      answer = ap (λ (o : Option CeremonyFault). answer_of o (equations_taken (kind_with (kind_field c.args.bytes.now)))) (out_of_phase m S c.args.bytes.now c.in_ok-kind.kind c.args.self.now.kept c.in_ok-kind.ensures (begun c.args.self.now.phase c.in_default.not-Unopened) away);
       after = refl;
-      kept = c.requires;
       lender = refl;
     }

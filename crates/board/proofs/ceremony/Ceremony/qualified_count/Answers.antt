@@ -16,7 +16,7 @@ overflow_add-dealers g c =
     let P : ℕ → Bool = qualified g.G.Group.meaning (board_of g.G.Group.meaning (state_of c.args.self.now)) in
     let low = count_below (c.loop-i.i - 1) P in
     let so : c.loop-i.dealers ≡ count (c.loop-i.i - 1) P = c.loop-i.invariant in
-    let few = c.requires.kept.few in
+    let few = c.args.self.now.kept.few in
     omega (arith, c.loop-i-test.true)
 
 pub loop-i-preserved : goal.loop-i-preserved
@@ -30,6 +30,6 @@ loop-i-preserved g c =
 pub returns : goal.returns
 returns g c =
     let P : ℕ → Bool = qualified g.G.Group.meaning (board_of g.G.Group.meaning (state_of c.args.self.now)) in
-    let n = c.requires.kept.n in
+    let n = c.args.self.now.kept.n in
     let end : c.loop-i.i - 1 ≡ c.args.self.now.n = omega (arith, c.loop-i-test.false, c.loop-i.auto.i-end (omega arith)) in
     c.loop-i.invariant ∙ ap (λ (k : ℕ). count k P) (end ∙ n)
