@@ -25,9 +25,9 @@ loop-j-preserved g c =
     let count : length found ≡ c.loop-j.count = sym (ap length c.loop-j.invariant.1) ∙ length-take-le c.loop-j.count c.loop-j.seats (omega (arith, c.loop-j.invariant.0)) in
     elim c.if-count-t.branch [
       | then-count-t+then-has w ↦ (
-        omega (arith, w.count-is, w.if-count-t.true, c.requires.kept.low, c.requires.kept.t),
+        omega (arith, w.count-is, w.if-count-t.true, c.args.ceremony.now.kept.low, c.args.ceremony.now.kept.t),
         ap₂ take w.count-is w.seats-is
-            ∙ take_more_set c.loop-j.seats c.loop-j.count j (omega (arith, w.if-count-t.true, c.requires.kept.low, c.requires.kept.t))
+            ∙ take_more_set c.loop-j.seats c.loop-j.count j (omega (arith, w.if-count-t.true, c.args.ceremony.now.kept.low, c.args.ceremony.now.kept.t))
             ∙ ap (λ (l : List ℕ). l ++ j ∷ []) c.loop-j.invariant.1
             ∙ sym (serving_more P (b.t + 1) j c.loop-j.auto.j (sym w.has.ensures ∙ w.if-has.true) (omega (arith, w.if-count-t.true))),
       )

@@ -12,7 +12,6 @@ use Rattle.readings.proofs.reveals.revealed_share.Goals as goal
 
 pub write_shares-requires : goal.write_shares-requires
 write_shares-requires g c = record {
-  kept = c.requires;
   room = shares_fit g.G.Group.meaning g.G.Group.lawful c.find_serving-count.result c.find_serving-count.new.seats c.find_serving-count.ensures.within;
 }
 
@@ -26,9 +25,9 @@ interpolate_known-requires g c =
     let out : List ℕ = replicate 128 0 in
     let stands : c.write_shares.new.out ≡ codes ++ drop (length codes) out = c.write_shares.ensures ∙ sym (written_first out codes) in
     record {
-      seats = subst Seats (sym c.find_serving-count.ensures.seats) (serving_seats_lem m g.G.Group.lawful s c.requires c.args.dealer);
+      seats = subst Seats (sym c.find_serving-count.ensures.seats) (serving_seats_lem m g.G.Group.lawful s c.args.ceremony.now.kept c.args.dealer);
       within = omega (arith, shares_fit m g.G.Group.lawful c.find_serving-count.result c.find_serving-count.new.seats c.find_serving-count.ensures.within, c.write_shares.auto.out);
-      taken = shares_taken m g.G.Group.lawful f (revealed_below m g.G.Group.lawful s c.requires c.args.dealer) c.write_shares.new.out seats 0 (drop (length codes) out) stands;
+      taken = shares_taken m g.G.Group.lawful f (revealed_below m g.G.Group.lawful s c.args.ceremony.now.kept c.args.dealer) c.write_shares.new.out seats 0 (drop (length codes) out) stands;
     }
 
 pub returns : goal.returns
@@ -43,6 +42,6 @@ returns g c =
     let stands : c.write_shares.new.out ≡ codes ++ drop (length codes) out = c.write_shares.ensures ∙ sym (written_first out codes) in
     c.interpolate_known.ensures
     ∙ ap (interpolated (shares m) m.q) (
-    entries_back m g.G.Group.lawful f (revealed_below m g.G.Group.lawful s c.requires c.args.dealer) c.write_shares.new.out seats 0 (drop (length codes) out) stands
+    entries_back m g.G.Group.lawful f (revealed_below m g.G.Group.lawful s c.args.ceremony.now.kept c.args.dealer) c.write_shares.new.out seats 0 (drop (length codes) out) stands
     ∙ ap (map (λ j. (j, f j))) c.find_serving-count.ensures.seats
     )

@@ -15,7 +15,7 @@ returns-in_default g c =
     let at = c.loop-at.at in
     let first = state_of c.args.ceremony.now in
     let now = state_of c.loop-at.ceremony in
-    let S = c.loop-at.invariant.1 in
+    let S = c.loop-at.invariant.0 in
     let no : begins_whole (drop at file) ≡ false = sym (ap begins_whole (all_of_rest at file)) ∙ c.in_default.ensures in
     let none = frames_broken (drop at file) no in
     record {
@@ -25,8 +25,7 @@ returns-in_default g c =
       taken = all_taken m first now file at c.loop-at.taken c.loop-at.refused c.loop-at.equations S none;
       refused = all_refused m first now file at c.loop-at.taken c.loop-at.refused c.loop-at.equations S none;
       broken = sym (broken_here at (drop at file) (omega (arith, length-drop at file, c.loop-at-test.true)) no) ∙ S.broken;
-      kept = c.loop-at.invariant.0;
-      lender = c.loop-at.invariant.2;
+      lender = c.loop-at.invariant.1;
     }
 
 pub loop-at-preserved : goal.loop-at-preserved
@@ -37,7 +36,7 @@ loop-at-preserved g c =
     let first = state_of c.args.ceremony.now in
     let now = state_of c.loop-at.ceremony in
     let later = state_of c.post.new.self in
-    let S = c.loop-at.invariant.1 in
+    let S = c.loop-at.invariant.0 in
     let all = all_of_rest at file in
     let W = c.in-Some.ensures in
     let whole : begins_whole (drop at file) ≡ true = sym (ap begins_whole all) ∙ W.0 in
@@ -62,7 +61,7 @@ loop-at-preserved g c =
           (w.refused-is ∙ sym (ap (λ (x : Result ℕ CeremonyFault). R + refused_by x) w.in-Err.is))
           (w.equations-is ∙ ap (λ (n : ℕ). E + n) w.equations.ensures ∙ sym (ap (λ (x : Result ℕ CeremonyFault). E + tested_by x) w.in-Err.is)) N
     ] in
-    (c.post.ensures.kept, counted, c.post.ensures.lender ∙ c.loop-at.invariant.2)
+    (counted, c.post.ensures.lender ∙ c.loop-at.invariant.1)
 
 pub returns : goal.returns
 returns g c =
@@ -71,7 +70,7 @@ returns g c =
     let at = c.loop-at.at in
     let first = state_of c.args.ceremony.now in
     let now = state_of c.loop-at.ceremony in
-    let S = c.loop-at.invariant.1 in
+    let S = c.loop-at.invariant.0 in
     let empty : length (drop at file) ≤ 0 = omega (arith, length-drop at file, c.loop-at-test.false) in
     let none = none_left (drop at file) empty in
     record {
@@ -81,6 +80,5 @@ returns g c =
       taken = all_taken m first now file at c.loop-at.taken c.loop-at.refused c.loop-at.equations S none;
       refused = all_refused m first now file at c.loop-at.taken c.loop-at.refused c.loop-at.equations S none;
       broken = sym (none_broken at (drop at file) empty) ∙ S.broken;
-      kept = c.loop-at.invariant.0;
-      lender = c.loop-at.invariant.2;
+      lender = c.loop-at.invariant.1;
     }
