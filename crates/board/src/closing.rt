@@ -20,11 +20,10 @@ impl<'a, G: Group> Ceremony<'a, G> {
         requires phase { (1 ≤ phase_number self.now.phase) × (phase_number self.now.phase ≤ 6) }
         ensures { fault_of result ≡ posting_fault G.meaning (board self.now) bytes.now }
     {
-        let phase = self.phase.number();
-        if bytes[4] != phase {
+        if bytes[4] != self.phase.number() {
             return Err(CeremonyFault::OutOfPhase { place: 4 });
         }
-        if phase == 6 && !self.are_all_revealed() {
+        if self.phase == Phase::Revealing && !self.are_all_revealed() {
             return Err(CeremonyFault::FewReveals { place: 4 });
         }
         Ok(())

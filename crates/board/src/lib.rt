@@ -7,3 +7,4 @@ mod closing;
 pub mod lookup;
 pub mod opening;
 pub mod posting;
+mod seats;

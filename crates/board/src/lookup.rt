@@ -11,6 +11,7 @@ ghost use Rattle.board.specs.State.{board};
 ghost use Rattle.board.specs.Posting.{ValueIn, ShareIn, FirstIn};
 
 use crate::ceremony::Ceremony;
+use crate::seats::count_seats;
 use group::group::Group;
 use group::powers::power_of;
 use protocol::kind::Kind;
@@ -54,9 +55,7 @@ impl<'a, G: Group> Ceremony<'a, G> {
         requires kind { (is_indexed kind ≡ true) × (layout_of kind ≡ Elements) }
         ensures { ValueIn G.meaning G.number_of (entry (board self.now).taken kind dealer 0) seat result }
     {
-        let Some(place) = self.index.find(kind, dealer, 0) else {
-            return None;
-        };
+        let place = self.index.find(kind, dealer, 0)?;
         let elements = &self.area[..self.used];
         let count = self.t as usize + 1;
         let value = value_of_known::<G, Element<G, G::Element>>(elements, place + 5, count, seat);
@@ -68,9 +67,7 @@ impl<'a, G: Group> Ceremony<'a, G> {
         requires kind { (is_indexed kind ≡ true) × (layout_of kind ≡ SecondAndShare) }
         ensures { ShareIn (λ x. (G.scalar_of x.left.value, G.scalar_of x.right.value)) (entry (board self.now).taken kind writer second) result }
     {
-        let Some(place) = self.index.find(kind, writer, second) else {
-            return None;
-        };
+        let place = self.index.find(kind, writer, second)?;
         let codes = &self.area[..self.used];
         Some(<Share<G> as Linear<G>>::known(codes, place + 6))
     }
@@ -79,9 +76,7 @@ impl<'a, G: Group> Ceremony<'a, G> {
     pub fn first_exposed(&self, dealer: u8) -> Option<G::Element>
         ensures { FirstIn G.meaning.unit G.number_of (exposure_of (board self.now) dealer) result }
     {
-        let Some(place) = self.index.find(Kind::Exposure, dealer, 0) else {
-            return None;
-        };
+        let place = self.index.find(Kind::Exposure, dealer, 0)?;
         let codes = &self.area[..self.used];
         let first = <Element<G, G::Element> as Linear<G>>::known(codes, place + 5);
         Some(first.value)
@@ -91,20 +86,18 @@ impl<'a, G: Group> Ceremony<'a, G> {
     pub fn opens(&self, dealer: u8, seat: u8, share: Share<G>) -> bool
         ensures { result ≡ passes1 G.meaning (board self.now) dealer seat (G.scalar_of share.left.value, G.scalar_of share.right.value) }
     {
-        match self.value_in(Kind::Deal, dealer, seat) {
-            Some(value) => G::equal(commit::<G>(share), value),
-            None => false,
-        }
+        let committed = commit::<G>(share);
+        self.value_in(Kind::Deal, dealer, seat)
+            .is_some_and(move |value| G::equal(committed, value))
     }
 
     // Equation 2.
     pub fn is_exposed(&self, dealer: u8, seat: u8, share: Share<G>) -> bool
         ensures { result ≡ passes2 G.meaning (board self.now) dealer seat (G.scalar_of share.left.value) }
     {
-        match self.value_in(Kind::Exposure, dealer, seat) {
-            Some(value) => G::equal(power_of::<G>(G::g(), share.left.value), value),
-            None => false,
-        }
+        let power = power_of::<G>(G::g(), share.left.value);
+        self.value_in(Kind::Exposure, dealer, seat)
+            .is_some_and(move |value| G::equal(power, value))
     }
 
     // How many seats have a record of a kind taken that names a dealer.
@@ -112,13 +105,7 @@ impl<'a, G: Group> Ceremony<'a, G> {
         requires kind { is_indexed kind ≡ true }
         ensures { result ≡ count (board self.now).n (λ j. is_taken (board self.now).taken kind j dealer) }
     {
-        let mut seats = 0;
-        for j in 1..self.n + 1 {
-            if self.has(kind, j, dealer) {
-                seats += 1;
-            }
-        }
-        seats
+        count_seats(self.n, |j| self.has(kind, j, dealer))
     }
 
     // Whether a dealer has answered a seat truly, if that seat complained of it.
@@ -135,12 +122,7 @@ impl<'a, G: Group> Ceremony<'a, G> {
     fn has_answered_all(&self, dealer: u8) -> bool
         ensures { result ≡ every (board self.now).n (λ j. not (complained (board self.now) j dealer) || answered G.meaning (board self.now) dealer j) }
     {
-        for j in 1..self.n + 1 {
-            if !self.has_answered(dealer, j) {
-                return false;
-            }
-        }
-        true
+        (1..self.n + 1).all(|j| self.has_answered(dealer, j))
     }
 
     // Whether a dealer is qualified, by the records taken so far.
@@ -160,23 +142,14 @@ impl<'a, G: Group> Ceremony<'a, G> {
     pub fn qualified_count(&self) -> u8
         ensures { result ≡ count (board self.now).n (qualified G.meaning (board self.now)) }
     {
-        let mut dealers = 0;
-        for i in 1..self.n + 1 {
-            if self.is_qualified(i) {
-                dealers += 1;
-            }
-        }
-        dealers
+        count_seats(self.n, |i| self.is_qualified(i))
     }
 
     // Whether the phase of the objections has ended.
     fn are_objections_closed(&self) -> bool
         ensures { result ≡ nat_lt 5 (starts (board self.now).taken) }
     {
-        match self.phase {
-            Phase::Revealing | Phase::Finished => true,
-            _ => false,
-        }
+        matches!(self.phase, Phase::Revealing | Phase::Finished)
     }
 
     // Whether a dealer is contested: objected to or, once the objections are closed, without an Exposure.
@@ -209,11 +182,6 @@ impl<'a, G: Group> Ceremony<'a, G> {
     pub fn are_all_revealed(&self) -> bool
         ensures { result ≡ all_revealed G.meaning (board self.now) }
     {
-        for i in 1..self.n + 1 {
-            if !self.is_revealed(i) {
-                return false;
-            }
-        }
-        true
+        (1..self.n + 1).all(|i| self.is_revealed(i))
     }
 }

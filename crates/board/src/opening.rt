@@ -53,9 +53,9 @@ impl<'a, G: Group> Ceremony<'a, G> {
         if bytes.len() != 24 {
             return Err(CeremonyFault::Record(RecordFault::Length { place: 0 }));
         }
-        if self.phase.number() != 0 {
+        let Phase::Unopened = self.phase else {
             return Err(CeremonyFault::OutOfPhase { place: 2 });
-        }
+        };
         if read_code(bytes, 4, 2) != G::group_number() as u32 {
             return Err(CeremonyFault::Parameter { place: 4 });
         }
