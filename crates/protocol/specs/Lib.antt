@@ -11,4 +11,3 @@ pub mod Guarantee
 pub mod Met
 pub mod Instances
 pub mod Given
-pub mod Told

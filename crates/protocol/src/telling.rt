@@ -2,7 +2,6 @@
 ghost use Rattle.std.specs.Prelude.{◌≡◌};
 ghost use Rattle.protocol.specs.Refusals.{equation_number, equations_refused, record_report, report_of};
 ghost use Rattle.protocol.specs.Custodian.{custodian_report};
-ghost use Rattle.protocol.specs.Told.{layer_told, report_told};
 ghost use Rattle.protocol.specs.declared.fault.RecordFault.TheVariants.{Code};
 ghost use Rattle.protocol.specs.declared.fault.CeremonyFault.TheVariants.{Record};
 ghost use Rattle.protocol.specs.declared.fault.CustodianFault.TheVariants.{Ceremony};
@@ -48,7 +47,7 @@ impl Equation {
 
 impl RecordFault {
     pub fn report(self) -> Report
-        ensures { report_told result ≡ record_report self }
+        ensures { result ≡ record_report self }
     {
         match self {
             RecordFault::Frame { place } => told(1, Layer::Frame, place),
@@ -66,7 +65,7 @@ impl RecordFault {
 
 impl CeremonyFault {
     pub fn report(self) -> Report
-        ensures { report_told result ≡ report_of self }
+        ensures { result ≡ report_of self }
     {
         match self {
             CeremonyFault::Record(fault) => fault.report(),
@@ -103,7 +102,7 @@ impl CeremonyFault {
 
 impl CustodianFault {
     pub fn report(self) -> Report
-        ensures { report_told result ≡ custodian_report self }
+        ensures { result ≡ custodian_report self }
     {
         match self {
             CustodianFault::Ceremony(fault) => fault.report(),
@@ -115,7 +114,7 @@ impl CustodianFault {
 
 // A report without a reason.
 fn told(number: u8, layer: Layer, place: usize) -> Report
-    ensures { report_told result ≡ record { number = number; layer = layer_told layer; place = place; reason = 0 } }
+    ensures { result ≡ record { number = number; layer = layer; place = place; reason = 0 } }
 {
     Report {
         number,
