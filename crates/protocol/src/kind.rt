@@ -1,4 +1,7 @@
 // The kinds of records, each by the number that stands in its frame.
+ghost use Rattle.std.specs.Prelude.{Some};
+ghost use Rattle.protocol.specs.Text.{unknown_text};
+
 use std::error::Error;
 use std::fmt;
 
@@ -22,6 +25,8 @@ pub enum Kind {
 pub struct UnknownKind(pub u32);
 
 impl fmt::Display for UnknownKind {
+    ghost output = { λ e. Some (unknown_text e) };
+
     fn fmt<W: fmt::Write>(&self, f: &mut fmt::Formatter<W>) -> fmt::Result {
         write!(f, "no kind of record has the number {}", self.0)
     }
