@@ -40,6 +40,7 @@ kind_number_lem n k e =
     (one_of n kinds.Objection k _ (one_of n kinds.Reveal k _ (one_of n kinds.Close k _ (one_of n kinds.Letter k _ (one_of n kinds.Sheet k None
     (λ z. none_some k z)))))))))) e
 
+-- a number fits the two bytes of a frame
 pub kind_small : (kind : Kind) → kind_number kind < 65536
 kind_small kinds.Opening = omega arith
 kind_small kinds.Deal = omega arith
