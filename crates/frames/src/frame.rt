@@ -38,21 +38,17 @@ pub fn length_for<G: Group>(kind: Kind, t: u8) -> usize
 pub fn is_posted(kind: Kind) -> bool
     ensures { result ≡ postable kind }
 {
-    let number = kind.number();
-    2 <= number && number <= 8
+    !matches!(kind, Kind::Opening | Kind::Letter | Kind::Sheet)
 }
 
 // The kind of a record that can be posted, where its length is right.
 pub fn read_kind<G: Group>(bytes: &[u8], t: u8) -> Result<Kind, RecordFault>
     ensures { ReadsKind G.meaning t bytes.now result }
 {
-    let number = read_frame(bytes)?;
-    let Some(kind) = Kind::with_number(number) else {
-        return Err(RecordFault::Kind { place: 2 });
+    let kind = match Kind::try_from(read_frame(bytes)?) {
+        Ok(kind) if is_posted(kind) => kind,
+        _ => return Err(RecordFault::Kind { place: 2 }),
     };
-    if !is_posted(kind) {
-        return Err(RecordFault::Kind { place: 2 });
-    }
     if bytes.len() != 2 + length_for::<G>(kind, t) {
         return Err(RecordFault::Length { place: 0 });
     }

@@ -1,10 +1,10 @@
 // The states of the seats, and the seat list.
 ghost use Rattle.std.specs.Prelude.{◌≡◌, length, nat_lt};
 ghost use Rattle.protocol.specs.Board.{starts};
-ghost use Rattle.protocol.specs.Readings.{state_of as seat_state, seat_list_fault};
+ghost use Rattle.protocol.specs.Readings.{state_of as seat_state, row_of as seat_row, seat_list_fault};
 ghost use Rattle.board.specs.State.{board};
 ghost use Rattle.board.specs.Posting.{answer_of};
-ghost use Rattle.readings.specs.Outputs.{seat_row, after_seat_list};
+ghost use Rattle.readings.specs.Outputs.{after_seat_list};
 
 use board::ceremony::Ceremony;
 use group::group::Group;

@@ -10,13 +10,7 @@ use protocol::state::SeatState;
 pub fn word(state: SeatState) -> &'static [u8]
     ensures { result.now ≡ word_of state }
 {
-    match state {
-        SeatState::Absent => b"absent",
-        SeatState::Dealt => b"dealt",
-        SeatState::Out => b"out",
-        SeatState::Qualified => b"qualified",
-        SeatState::Contested => b"contested",
-    }
+    state.word().as_bytes()
 }
 
 // Writes the word of a state at the start of an output, and tells its length.

@@ -2,10 +2,10 @@ use Rattle.std.proofs.Common.{◌≡◌, ℕ, ◌++◌, map, length, drop, set, 
 use Rattle.std.specs.List.{range_with_len}
 use Rattle.protocol.specs.declared.fault.CeremonyFault.TheVariants.{OutOfPhase, SmallOutput}
 use Rattle.protocol.specs.declared.row.SeatRow.{SeatRow}
-use Rattle.protocol.specs.Readings.{seat_list_fault}
+use Rattle.protocol.specs.Readings.{row_of, seat_list_fault}
 use Rattle.board_index.specs.State.{board_of}
 use Rattle.board.specs.State.{state_of}
-use Rattle.readings.specs.Outputs.{seat_row, with_seats}
+use Rattle.readings.specs.Outputs.{with_seats}
 use Rattle.readings.proofs.Refusing.{refuses, keeps, answers, leaves, list_unopened, list_small, list_taken}
 use Rattle.readings.proofs.Rows.{row_more}
 use Rattle.readings.proofs.seats.seat_list.Goals as goal
@@ -35,7 +35,7 @@ loop-k-preserved g c =
     let b = board_of m (state_of c.args.ceremony.now) in
     let k = c.loop-k.k in
     ap (λ (r : SeatRow). set c.loop-k.rows k r) c.row_of.ensures
-    ∙ row_more (seat_row m b) c.args.rows.now c.loop-k.rows k (omega arith) c.loop-k.invariant
+    ∙ row_more (row_of m b) c.args.rows.now c.loop-k.rows k (omega arith) c.loop-k.invariant
 
 pub returns : goal.returns
 returns g c =
@@ -48,5 +48,5 @@ returns g c =
     let end : c.loop-k.k ≡ b.n = omega arith in
     record {
       answer = answers fault tt tt refl e;
-      rows = c.loop-k.invariant ∙ ap (λ (k : ℕ). map (seat_row m b) (range_with_len 1 k) ++ drop k rows) end ∙ leaves fault (with_seats m b rows) rows e;
+      rows = c.loop-k.invariant ∙ ap (λ (k : ℕ). map (row_of m b) (range_with_len 1 k) ++ drop k rows) end ∙ leaves fault (with_seats m b rows) rows e;
     }
