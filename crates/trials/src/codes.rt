@@ -13,10 +13,7 @@ pub(super) fn coded(n: u32, width: usize) -> [u8; 8]
     requires { width ≤ 4 }
 {
     let mut bytes = [0xAA; 8];
-    let spelled = n.to_le_bytes();
-    for k in 0..width {
-        bytes[PLACE + k] = spelled[k];
-    }
+    bytes[PLACE..PLACE + width].copy_from_slice(&n.to_le_bytes()[..width]);
     bytes
 }
 
