@@ -1,5 +1,5 @@
 use Rattle.std.proofs.Common.{◌≤◌, length, mul-le-mul, arith}
-use Rattle.sharing_trials.proofs.recovery.write_recovered.Goals as goal
+use Rattle.sharing_trials.proofs.recovery.recovered.Goals as goal
 
 pub interpolate-requires : goal.interpolate-requires
 interpolate-requires g c =
