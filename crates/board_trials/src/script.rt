@@ -3,12 +3,13 @@ ghost use Rattle.std.specs.Prelude.{◌≡◌};
 ghost use Rattle.board_index.specs.Kept.{Kept};
 ghost use Rattle.board.specs.State.{state_of};
 
-use super::record::{Record, write_record};
+use super::record::Record;
 use board::ceremony::Ceremony;
 use group::codes::write_element;
 use group::group::Group;
 use group::powers::power_of;
 use protocol::fault::CeremonyFault;
+use protocol::phase::Phase;
 use protocol::report::{Layer, Report};
 use protocol::row::SeatRow;
 use protocol::state::SeatState;
@@ -26,7 +27,7 @@ pub(super) enum Step {
     Taken(Record, u8),
     // Refused with a number, at a place, for a reason.
     Refused(Record, u8, usize, u8),
-    Phase(u8),
+    Phase(Phase),
     Seats(&'static [(SeatState, u8)]),
     // The share that is revealed of a dealer.
     Share(u8, u32, u32),
@@ -41,7 +42,7 @@ pub(super) enum Step {
 
 fn layer_of(number: u8) -> Layer {
     match number {
-        1 | 2 | 3 => Layer::Frame,
+        1..=3 => Layer::Frame,
         9 => Layer::Group,
         14 | 15 => Layer::Custodian,
         _ => Layer::Ceremony,
@@ -77,14 +78,10 @@ fn hand<G: Group>(ceremony: &mut Ceremony<'_, G>, record: Record) -> Result<u8, 
     ensures kept { Kept G.meaning (state_of ceremony.new) }
     ensures lender { ceremony.new.area.ghost_name ≡ ceremony.old.area.ghost_name }
 {
-    let mut bytes = [0; 32];
-    let size = write_record::<G>(record, &mut bytes);
+    let bytes = record.bytes::<G>();
     match record {
-        Record::Opening(_, _) | Record::Start(_) => match ceremony.open(&bytes[0..size]) {
-            Ok(_) => Ok(0),
-            Err(fault) => Err(fault),
-        },
-        _ => ceremony.post(&bytes[0..size]),
+        Record::Opening(_, _) | Record::Start(_) => ceremony.open(bytes.as_slice()).map(|()| 0),
+        _ => ceremony.post(bytes.as_slice()),
     }
 }
 
@@ -104,26 +101,25 @@ fn check_seats<G: Group>(
 {
     let mut rows = [UNWRITTEN; 8];
     seat_list(ceremony, &mut rows)?;
-    for k in 0..8usize {
-        let (state, complaints) = seats.get(k).copied().unwrap_or((SeatState::Out, 77));
-        assert_eq!(rt; rows[k], SeatRow { state, complaints }, "{}", k);
+    let mut expected = [UNWRITTEN; 8];
+    for (row, (state, complaints)) in expected.iter_mut().zip(seats.iter().copied()) {
+        *row = SeatRow { state, complaints };
     }
+    assert_eq!(rt; rows, expected);
     Ok(())
 }
 
-// Refused, and the rows stay.
+// Refused for two rows, and they stay.
 fn check_no_seats<G: Group>(
     rt: &impl Abort,
     ceremony: &Ceremony<'_, G>,
-    rows: &mut [SeatRow],
     number: u8,
 ) -> Result<(), Fail>
     requires { Kept G.meaning (state_of ceremony.now) }
 {
-    check_refused(rt, seat_list(ceremony, rows), number, 0, 0)?;
-    for row in rows {
-        assert_eq!(rt; *row, UNWRITTEN);
-    }
+    let mut rows = [UNWRITTEN; 2];
+    check_refused(rt, seat_list(ceremony, &mut rows), number, 0, 0)?;
+    assert_eq!(rt; rows, [UNWRITTEN; 2]);
     Ok(())
 }
 
@@ -136,7 +132,7 @@ fn check_code<G: Group>(
     requires { Kept G.meaning (state_of ceremony.now) }
 {
     let mut out = [0xFF; 4];
-    check_refused(rt, write_key(ceremony, &mut out[0..1]), 14, 0, 0)?;
+    check_refused(rt, write_key(ceremony, &mut out[..1]), 14, 0, 0)?;
     assert_eq!(rt; out, [0xFF; 4]);
     assert_eq!(rt; write_key(ceremony, &mut out)?, G::width());
     assert_eq!(rt; out, code);
@@ -177,8 +173,7 @@ fn check_share<G: Group>(
     requires { Kept G.meaning (state_of ceremony.now) }
 {
     let revealed = numbers_of::<G>(revealed_share(ceremony, dealer));
-    assert_eq!(rt; revealed.0, share.0);
-    assert_eq!(rt; revealed.1, share.1);
+    assert_eq!(rt; revealed, share);
     Ok(())
 }
 
@@ -194,15 +189,14 @@ fn take_step<G: Group>(
     let _of: PhantomData<G> = PhantomData;
     match step {
         Step::Taken(record, equations) => {
-            let counted = hand(ceremony, record)?;
-            assert_eq!(rt; counted, equations);
+            assert_eq!(rt; hand(ceremony, record)?, equations);
             Ok(())
         }
         Step::Refused(record, number, place, reason) => {
             check_refused(rt, hand(ceremony, record), number, place, reason)
         }
         Step::Phase(phase) => {
-            assert_eq!(rt; ceremony.phase().number(), phase);
+            assert_eq!(rt; ceremony.phase(), phase);
             Ok(())
         },
         Step::Seats(seats) => check_seats(rt, ceremony, seats),
@@ -210,8 +204,8 @@ fn take_step<G: Group>(
         Step::Key(log) => check_key(rt, ceremony, log),
         Step::Code(code) => check_code(rt, ceremony, code),
         Step::NoKey => check_no_key(rt, ceremony),
-        Step::NoSeats => check_no_seats(rt, ceremony, &mut [UNWRITTEN; 2], 4),
-        Step::FewRows => check_no_seats(rt, ceremony, &mut [UNWRITTEN; 2], 14),
+        Step::NoSeats => check_no_seats(rt, ceremony, 4),
+        Step::FewRows => check_no_seats(rt, ceremony, 14),
     }
 }
 
