@@ -17,7 +17,7 @@ pub(super) fn check_rest(rt: &impl Abort, bytes: &[u8], from: usize) {
 
 // The length of what follows it, the kind, the dealer's seat.
 fn check_head(rt: &impl Abort, record: &[u8; 80], size: usize, seat: u8) {
-    assert_eq!(rt; usize::from(record[0]).saturating_add(2), size);
+    assert_eq!(rt; record[0] as usize + 2, size);
     assert_eq!(rt; &record[1..5], [0, 2, 0, seat].as_slice());
 }
 

@@ -38,7 +38,7 @@ fn every_seat(rt: HostRuntime) {
     assert!(rt; are_different_seats(&all_seats()));
 }
 
-// The seat is none, or repeats the next one or the one before.
+// The seat is none, or repeats the next one or the one before. By index: these are read too.
 fn check_wrong_at(rt: &impl Abort, k: usize)
     requires { k < 32 }
 {

@@ -17,7 +17,8 @@ pub(super) fn coded(n: u32, width: usize) -> [u8; 8]
     bytes
 }
 
-// The number of the element whose code stands at the place.
+// The number of the element whose code stands at the place. It and the next differ in the group's calls alone: a trait for
+// both would be longer than they are.
 pub(super) fn element_read<G: Group>(bytes: &[u8; 8]) -> Result<u32, GroupFault> {
     let element = read_element::<G>(bytes, PLACE)?;
     Ok(G::element_number(element))

@@ -49,6 +49,7 @@ fn check_round<G: Group>(rt: &impl Abort, q: u32) {
     }
 }
 
+// Each base by itself: a loop over an array of elements of any group does not prove, as their size is not known.
 fn check_powers<G: Group>(rt: &impl Abort) {
     check_small_powers::<G>(rt, G::g());
     check_small_powers::<G>(rt, G::h());

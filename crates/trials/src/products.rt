@@ -32,6 +32,7 @@ fn remainder(polynomial: u64) -> u64 {
     rest
 }
 
+// Not one with the test of residues: what is drawn and what is expected would come as closures, longer than the loop.
 #[test]
 fn polynomial_products(rt: HostRuntime) -> Result<(), Fail> {
     let mut numbers = Numbers::starting_at(1);
