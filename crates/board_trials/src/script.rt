@@ -25,7 +25,7 @@ use std::test::Fail;
 pub(super) enum Step {
     // Taken, with so many equations tested.
     Taken(Record, u8),
-    // Refused with a number, at a place, for a reason.
+    // Refused with a number, at a place, for a reason: as numbers, which a test by the fault's name would not see.
     Refused(Record, u8, usize, u8),
     Phase(Phase),
     Seats(&'static [(SeatState, u8)]),
@@ -40,6 +40,7 @@ pub(super) enum Step {
     FewRows,
 }
 
+// From the number alone, as the documents have it, to compare with the layer that is told.
 fn layer_of(number: u8) -> Layer {
     match number {
         1..=3 => Layer::Frame,
@@ -233,6 +234,7 @@ pub(super) fn play_over<G: Group>(
     rest: &[Step],
 ) -> Result<(), Fail> {
     let mut ceremony = Ceremony::<G>::new(area);
+    // Without `?`, since a ceremony is released on each way out.
     let mut played = play(rt, &mut ceremony, first);
     if let Ok(()) = played {
         played = play(rt, &mut ceremony, rest);

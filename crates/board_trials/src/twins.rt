@@ -1,5 +1,5 @@
 // A refusal changes nothing: two ceremonies are posted the same records, but for those that the first one refuses.
-ghost use Rattle.std.specs.Prelude.{◌≡◌, ◌≤◌};
+ghost use Rattle.std.specs.Prelude.{◌≡◌};
 ghost use Rattle.board_index.specs.Kept.{Kept};
 ghost use Rattle.board.specs.State.{state_of};
 
@@ -22,7 +22,7 @@ use std::test::Fail;
 const OPENED: &[Step] = &[Step::Taken(Record::Opening(3, 1), 0)];
 
 // A whole ceremony: dealer 2 is contested by Objections, dealer 3 for want of an Exposure.
-const RECORDS: &[Record] = &[
+const RECORDS: &[Record; 24] = &[
     Record::Deal(1, (2, 1), (1, 0)),
     Record::Deal(2, (3, 0), (2, 1)),
     Record::Deal(3, (1, 2), (2, 0)),
@@ -50,7 +50,7 @@ const RECORDS: &[Record] = &[
 ];
 
 // As a call, so that nothing about them goes into a proof.
-fn records() -> &'static [Record] {
+fn records() -> &'static [Record; 24] {
     RECORDS
 }
 
@@ -87,13 +87,11 @@ fn noise(seed: u32) -> [u8; 32] {
 
 // A record of the ceremony, counted round.
 fn nth<G: Group>(n: u32) -> RecordBytes {
-    match records().get((n % 24) as usize) {
-        Some(record) => record.bytes::<G>(),
-        None => RecordBytes::copied(&[]),
-    }
+    records()[n as usize % 24].bytes::<G>()
 }
 
 // Any bytes, a frame around any bytes, a record with other seats, a damaged record, or a record out of its turn.
+// A number picks, since it is drawn: an enum would be made of it for this one match.
 fn disturbance<G: Group>(random: u32) -> RecordBytes {
     let n = Numbers::from_seed(random).draw() / 256;
     let size = (n / 8 % 33) as usize;
@@ -128,7 +126,7 @@ fn record_for<G: Group>(turn: u32, random: u32) -> RecordBytes {
     }
 }
 
-// How many equations are tested for a taken record.
+// How many equations are tested for a taken record, by its kind's number as it stands in the bytes.
 fn equations_of(bytes: &[u8]) -> u8 {
     match bytes.get(2) {
         Some(4 | 7) => 1,
