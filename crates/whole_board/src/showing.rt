@@ -1,6 +1,4 @@
 // A whole board, record by record, from its Opening to the key.
-ghost use Rattle.std.specs.Prelude.{◌≡◌};
-
 use board::ceremony::Ceremony;
 use group::group::Group;
 use protocol::fault::CeremonyFault;
@@ -47,7 +45,6 @@ impl fmt::Display for Hex<'_> {
 
 // Opens the ceremony with an Opening, and posts any other record; tells how many equations were tested.
 fn give<G: Group>(ceremony: &mut Ceremony<'_, G>, bytes: &[u8]) -> Result<u8, CeremonyFault>
-    ensures lender { ceremony.new.area.ghost_name ≡ ceremony.old.area.ghost_name }
 {
     if let [_, _, 1, 0, ..] = bytes {
         ceremony.open(bytes)?;
@@ -62,7 +59,6 @@ fn give_all<G: Group>(
     ceremony: &mut Ceremony<'_, G>,
     records: &[&[u8]],
 ) -> io::Result<()>
-    ensures lender { ceremony.new.area.ghost_name ≡ ceremony.old.area.ghost_name }
 {
     for bytes in records {
         let named = Named(bytes);
