@@ -12,10 +12,8 @@ pub fn read_code(bytes: &[u8], at: usize, width: usize) -> u32
     ensures { result ≡ code_at bytes.now width at }
 {
     let mut n: u32 = 0;
-    let mut k = width;
-    while k > 0 {
-        k -= 1;
-        n = n * 256 + bytes[at + k] as u32;
+    for byte in bytes[at..at + width].iter().rev() {
+        n = n * 256 + *byte as u32;
     }
     n
 }
@@ -25,8 +23,8 @@ pub fn write_code(out: &mut [u8], at: usize, width: usize, n: u32)
     ensures { out.new ≡ with_code out.old width at n }
 {
     let mut left = n;
-    for k in 0..width {
-        out[at + k] = (left % 256) as u8;
+    for byte in &mut out[at..at + width] {
+        *byte = (left % 256) as u8;
         left /= 256;
     }
 }
