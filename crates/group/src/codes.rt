@@ -33,28 +33,28 @@ pub fn read_element<G: Group>(bytes: &[u8], at: usize) -> Result<G::Element, Gro
     requires { at + G.meaning.w ≤ length bytes.now }
     ensures { Reads (element_refusal G.meaning (code_at bytes.now G.meaning.w at) at) G.number_of (code_at bytes.now G.meaning.w at) result }
 {
-    G::element(read_code(bytes, at, G::width()), at)
+    G::element(read_code(bytes, at, G::W), at)
 }
 
 pub fn write_element<G: Group>(x: G::Element, out: &mut [u8], at: usize)
     requires { at + G.meaning.w ≤ length out.old }
     ensures { out.new ≡ with_code out.old G.meaning.w at (G.number_of x) }
 {
-    write_code(out, at, G::width(), G::element_number(x));
+    write_code(out, at, G::W, G::element_number(x));
 }
 
 pub fn read_scalar<G: Group>(bytes: &[u8], at: usize) -> Result<G::Scalar, GroupFault>
     requires { at + G.meaning.s ≤ length bytes.now }
     ensures { Reads (scalar_refusal G.meaning (code_at bytes.now G.meaning.s at) at) G.scalar_of (code_at bytes.now G.meaning.s at) result }
 {
-    G::scalar(read_code(bytes, at, G::scalar_width()), at)
+    G::scalar(read_code(bytes, at, G::S), at)
 }
 
 pub fn write_scalar<G: Group>(x: G::Scalar, out: &mut [u8], at: usize)
     requires { at + G.meaning.s ≤ length out.old }
     ensures { out.new ≡ with_code out.old G.meaning.s at (G.scalar_of x) }
 {
-    write_code(out, at, G::scalar_width(), G::scalar_number(x));
+    write_code(out, at, G::S, G::scalar_number(x));
 }
 
 // Reading a code that was written gives its number back: a theorem, which its contract states.

@@ -18,4 +18,4 @@ loop-rest-preserved g c =
     let a = c.args.self.value in
     let rest = mod-lt q inv.0 in
     let pos : 0 < q % b = ⊎_elim (λ e. absurd (c.requires.no_divisor b c.loop-rest-test.true inv.1 e)) (λ ne. omega (arith, ne)) (cases_eq (q % b) 0) in
-    (pos, omega arith, ap (λ (x : ℕ). (x * a) % q) (c.multiply-inverse.ensures ∙ ap (λ (x : ℕ). (t * x) % q) c.new.ensures) ∙ inverse_turn q t b a inv.0 inv.1 inv.2)
+    (pos, omega arith, ap (λ (x : ℕ). (x * a) % q) (c.mul-inverse.ensures ∙ ap (λ (x : ℕ). (t * x) % q) c.new.ensures) ∙ inverse_turn q t b a inv.0 inv.1 inv.2)
