@@ -1,7 +1,7 @@
 -- One byte more of a code, read or written.
-use Rattle.std.proofs.Common.{◌≡◌, ℕ, zero, suc, ◌+◌, ◌-◌, ◌*◌, ◌/◌, ◌%◌, ◌^◌, ◌<◌, ◌≤◌, List, [], ◌∷◌, ◌++◌, length, get_or, take, drop, set, sym, refl, ap, subst, ◌∙◌, ap₂, append_assoc, pow-suc, arith, get_or-drop, length-drop}
+use Rattle.std.proofs.Common.{◌≡◌, ℕ, zero, suc, ◌+◌, ◌-◌, ◌*◌, ◌/◌, ◌%◌, ◌^◌, ◌<◌, ◌≤◌, List, [], ◌∷◌, ◌++◌, length, get_or, take, drop, set, sym, refl, ap, subst, ◌∙◌, append_assoc, pow-suc, arith, get_or-drop, length-drop}
 use Rattle.std.specs.List.{push}
-use Rattle.std.proofs.lemmas.List.{length_push, take_more_set, take_all, append-nil, length-take-le}
+use Rattle.std.proofs.lemmas.List.{length_push, take_more_set, length-take-le}
 use Rattle.group.specs.Code.{code, code_at}
 
 -- Reading: of the w bytes from a place on, `rest` are left, and n is what those behind them spell.
@@ -75,19 +75,8 @@ module _ {bytes : List ℕ} {w at n : ℕ} {rest : List ℕ} where
         spelled = omega (arith, code_at_more bytes (w - length next) j (at + length next) more);
       }
 
-  pub read_done : Read bytes w at rest n → length rest ≡ 0 → n ≡ code_at bytes w at
-  read_done r none =
-      let all : w - length rest ≡ w = omega arith in
-      let start : at + length rest ≡ at = omega arith in
-      r.spelled ∙ ap₂ (code_at bytes) all start
-
 -- Writing: what is written, and the code of what is left of n, spell n.
 
 pub write_more : (bytes : List ℕ) (i j left : ℕ) → i < length bytes → take (i + 1) (set bytes i (left % 256)) ++ code j (left / 256) ≡ take i bytes ++ code (suc j) left
 unfolding code
 write_more bytes i j left h = rw (take_more_set, append_assoc)
-
-pub write_done : (bytes : List ℕ) (i j left : ℕ) → length bytes ≤ i → j ≡ 0 → bytes ≡ take i bytes ++ code j left
-unfolding code
-write_done bytes i j left all none =
-    sym (take_all i bytes all) ∙ sym (append-nil (take i bytes)) ∙ ap (λ (w : ℕ). take i bytes ++ code w left) (sym none)

@@ -6,6 +6,7 @@ ghost use Rattle.group.specs.Reading.{Reads, element_refusal, scalar_refusal};
 use crate::fault::GroupFault;
 use crate::group::Group;
 
+// Bytes and a place, not the bytes from there on: a refusal tells the place.
 pub fn read_code(bytes: &[u8], at: usize, width: usize) -> u32
     requires narrow { width ≤ 4 }
     requires within { at + width ≤ length bytes.now }

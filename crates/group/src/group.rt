@@ -14,6 +14,7 @@ pub trait Group {
     // The width of a scalar code in bytes.
     const S: usize;
 
+    // The constants as clauses name them.
     ghost NUMBER: { ℕ };
 
     ghost W: { ℕ };
@@ -36,6 +37,7 @@ pub trait Group {
 
     ghost below: { (x : Self.Scalar) → scalar_of x < meaning.q };
 
+    // The constants as calls.
     fn group_number() -> u16
         ensures { result ≡ meaning.number }
     {
@@ -54,6 +56,7 @@ pub trait Group {
         Self::S
     }
 
+    // Functions and no operators: what each gives is one clause about numbers.
     fn unit() -> Self::Element
         ensures { number_of result ≡ meaning.unit };
 

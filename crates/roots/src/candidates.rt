@@ -17,6 +17,7 @@ pub trait Candidates<const Q: u32> {
 
     const H: u32;
 
+    // The constants as clauses name them.
     ghost NUMBER: { ℕ };
 
     ghost W: { ℕ };

@@ -7,12 +7,14 @@ use group::operation::Operation;
 use std::alloc::AllocError;
 use std::marker::PhantomData;
 
+// A number that can be multiplied.
 pub(crate) struct Factor<const Q: u32, C: Candidates<Q>> {
     value: u32,
     of: PhantomData<C>,
     ghost ok: { C.factor value ≡ true },
 }
 
+// By hand: no derive of Clone takes a ghost field of a generic type.
 impl<const Q: u32, C: Candidates<Q>> Clone for Factor<Q, C> {
     ghost is_clone = { λ it copy. copy ≡ it };
 

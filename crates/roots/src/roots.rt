@@ -22,6 +22,7 @@ pub struct Root<const Q: u32, C: Candidates<Q>> {
     ghost ok: { C.meaning.member value ≡ true },
 }
 
+// By hand: no derive of Clone takes a ghost field of a generic type.
 impl<const Q: u32, C: Candidates<Q>> Clone for Root<Q, C> {
     ghost is_clone = { λ it copy. copy ≡ it };
 

@@ -1,6 +1,6 @@
 use Rattle.std.proofs.Common.{◌≡◌, ℕ, ◌+◌, ◌-◌, drop, take, refl, ap, ◌∙◌, arith}
 use Rattle.std.specs.Slice.Iter.{iter_rest}
-use Rattle.group.proofs.CodeSteps.{read_none, read_room, read_byte, read_more, read_done}
+use Rattle.group.proofs.CodeSteps.{read_none, read_room, read_byte, read_more}
 use Rattle.group.proofs.codes.read_code.Goals as goal
 
 pub loop-byte-init : goal.loop-byte-init
@@ -20,6 +20,3 @@ overflow_add-n c =
 pub loop-byte-preserved : goal.loop-byte-preserved
 loop-byte-preserved c =
     read_more c.loop-byte.invariant _ _ c.in-Some.ensures.steps (read_byte c.loop-byte.invariant _ _ c.in-Some.ensures.steps (λ i. let f = c.type_inv.bytes i in omega arith))
-
-pub returns : goal.returns
-returns c = read_done c.loop-byte.invariant c.in-None.ensures.steps.0

@@ -1,13 +1,7 @@
-use Rattle.std.proofs.Common.{ℕ, ◌*◌, ◌%◌, ◌<◌, ap, ◌∙◌, ⊎_elim, mod-lt, mod-eq_of_lt, one-mul, arith}
+use Rattle.std.proofs.Common.{ℕ, ◌*◌, ◌%◌, ◌<◌, ap, ◌∙◌, ⊎_elim, mod-lt, arith}
 use Rattle.std.proofs.lemmas.Bool.{cases_eq}
 use Rattle.group.specs.ModularLaws.{inverse_turn}
 use Rattle.group.proofs.modular.Modular.inverse.Goals as goal
-
-pub loop-rest-init : goal.loop-rest-init
-loop-rest-init g c =
-    let a = c.args.self.value in
-    let below = c.args.self.below in
-    (omega arith, below, ap (λ (x : ℕ). (x * a) % g.row.Q) c.new-inverse.ensures ∙ ap (λ (x : ℕ). x % g.row.Q) (one-mul a) ∙ mod-eq_of_lt below)
 
 pub loop-rest-preserved : goal.loop-rest-preserved
 loop-rest-preserved g c =
