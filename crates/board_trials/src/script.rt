@@ -69,8 +69,7 @@ pub(super) fn check_refused<T: Drop>(
 }
 
 // Hands a record to the opening call or to the posting call.
-fn hand<G: Group>(ceremony: &mut Ceremony<'_, G>, record: Record) -> Result<u8, CeremonyFault>
-{
+fn hand<G: Group>(ceremony: &mut Ceremony<'_, G>, record: Record) -> Result<u8, CeremonyFault> {
     let bytes = record.bytes::<G>();
     match record {
         Record::Opening(_, _) | Record::Start(_) => ceremony.open(bytes.as_slice()).map(|()| 0),
@@ -89,8 +88,7 @@ fn check_seats<G: Group>(
     rt: &impl Abort,
     ceremony: &Ceremony<'_, G>,
     seats: &[(SeatState, u8)],
-) -> Result<(), Fail>
-{
+) -> Result<(), Fail> {
     let mut rows = [UNWRITTEN; 8];
     seat_list(ceremony, &mut rows)?;
     let mut expected = [UNWRITTEN; 8];
@@ -106,8 +104,7 @@ fn check_no_seats<G: Group>(
     rt: &impl Abort,
     ceremony: &Ceremony<'_, G>,
     number: u8,
-) -> Result<(), Fail>
-{
+) -> Result<(), Fail> {
     let mut rows = [UNWRITTEN; 2];
     check_refused(rt, seat_list(ceremony, &mut rows), number, 0, 0)?;
     assert_eq!(rt; rows, [UNWRITTEN; 2]);
@@ -119,8 +116,7 @@ fn check_code<G: Group>(
     rt: &impl Abort,
     ceremony: &Ceremony<'_, G>,
     code: [u8; 4],
-) -> Result<(), Fail>
-{
+) -> Result<(), Fail> {
     let mut out = [0xFF; 4];
     check_refused(rt, write_key(ceremony, &mut out[..1]), 14, 0, 0)?;
     assert_eq!(rt; out, [0xFF; 4]);
@@ -129,16 +125,14 @@ fn check_code<G: Group>(
     Ok(())
 }
 
-fn check_key<G: Group>(rt: &impl Abort, ceremony: &Ceremony<'_, G>, log: u32) -> Result<(), Fail>
-{
+fn check_key<G: Group>(rt: &impl Abort, ceremony: &Ceremony<'_, G>, log: u32) -> Result<(), Fail> {
     let mut code = [0xFF; 4];
     write_element::<G>(power_of::<G>(G::g(), G::reduced(log)), &mut code, 0);
     check_code(rt, ceremony, code)
 }
 
 // Refused, and the output stays.
-fn check_no_key<G: Group>(rt: &impl Abort, ceremony: &Ceremony<'_, G>) -> Result<(), Fail>
-{
+fn check_no_key<G: Group>(rt: &impl Abort, ceremony: &Ceremony<'_, G>) -> Result<(), Fail> {
     let mut out = [0xFF; 4];
     check_refused(rt, write_key(ceremony, &mut out), 4, 0, 0)?;
     assert_eq!(rt; out, [0xFF; 4]);
@@ -157,8 +151,7 @@ fn check_share<G: Group>(
     ceremony: &Ceremony<'_, G>,
     dealer: u8,
     share: (u32, u32),
-) -> Result<(), Fail>
-{
+) -> Result<(), Fail> {
     let revealed = numbers_of::<G>(revealed_share(ceremony, dealer));
     assert_eq!(rt; revealed, share);
     Ok(())
@@ -168,8 +161,7 @@ fn take_step<G: Group>(
     rt: &impl Abort,
     ceremony: &mut Ceremony<'_, G>,
     step: Step,
-) -> Result<(), Fail>
-{
+) -> Result<(), Fail> {
     match step {
         Step::Taken(record, equations) => {
             assert_eq!(rt; hand(ceremony, record)?, equations);
@@ -196,8 +188,7 @@ pub(super) fn play<G: Group>(
     rt: &impl Abort,
     ceremony: &mut Ceremony<'_, G>,
     script: &[Step],
-) -> Result<(), Fail>
-{
+) -> Result<(), Fail> {
     for step in script {
         take_step(rt, ceremony, *step)?;
     }

@@ -143,8 +143,7 @@ fn check_same<G: Group>(
     rt: &impl Abort,
     first: &Ceremony<'_, G>,
     second: &Ceremony<'_, G>,
-) -> Result<(), Fail>
-{
+) -> Result<(), Fail> {
     assert_eq!(rt; first.n(), second.n());
     assert_eq!(rt; first.t(), second.t());
     assert_eq!(rt; first.phase().number(), second.phase().number());
@@ -167,8 +166,7 @@ fn post_both<G: Group>(
     second: &mut Ceremony<'_, G>,
     bytes: &[u8],
     seen: &mut Seen,
-) -> Result<(), Fail>
-{
+) -> Result<(), Fail> {
     seen.phases.add(first.phase().number());
     match first.post(bytes) {
         Ok(equations) => {
@@ -191,8 +189,7 @@ fn post_turns<G: Group>(
     second: &mut Ceremony<'_, G>,
     seed: u32,
     seen: &mut Seen,
-) -> Result<(), Fail>
-{
+) -> Result<(), Fail> {
     play(rt, first, OPENED)?;
     play(rt, second, OPENED)?;
     for (turn, random) in (0..96).zip(Numbers::starting_at(seed)) {

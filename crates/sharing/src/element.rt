@@ -19,7 +19,7 @@ pub struct Element<G, E> {
     pub of: PhantomData<G>,
 }
 
-impl<E: Copy, G: Group<Element = E>> Linear<G> for Element<G, E> {
+impl<E: Copy + PartialEq, G: Group<Element = E>> Linear<G> for Element<G, E> {
     ghost Value = { ℕ };
 
     ghost of = { λ x. G.Group.number_of x.value };
