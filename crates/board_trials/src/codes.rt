@@ -5,6 +5,7 @@ use binary_polynomials::BinaryPolynomials;
 use residues::Residues;
 use std::test::Fail;
 
+// Not one script for both groups, since they differ in the numbers of most lines.
 // Codes of two bytes; 2038 is a candidate and no member.
 const RESIDUES: &[Step] = &[
     Step::Taken(Record::Opening(3, 1), 0),

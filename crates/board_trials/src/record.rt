@@ -25,7 +25,7 @@ pub(super) enum Record {
     Bytes(&'static [u8]),
 }
 
-// The bytes of a record, of which zeros or others may stand behind it.
+// The bytes of a record; zeros or others may stand behind them. Not a Vec, since tests change bytes behind the length too.
 #[derive(Drop)]
 pub(super) struct RecordBytes {
     pub(super) bytes: [u8; 32],

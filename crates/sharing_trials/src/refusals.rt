@@ -1,5 +1,5 @@
 // A refused code among others is told with its place and its reason, the first one where there are more.
-ghost use Rattle.std.specs.Prelude.{◌≤◌};
+ghost use Rattle.std.specs.Prelude.{◌<◌, ◌≤◌};
 
 use super::sample::{element_codes, scalar_codes};
 use binary_polynomials::BinaryPolynomials;
@@ -99,10 +99,11 @@ fn check_places<G: Group, L: Linear<G>>(
     good: &[u8; 64],
     wrong: Wrong,
 ) -> Result<(), Fail>
-    requires { L.width ≤ 4 }
+    requires from { 0 < L.width }
+    requires to { L.width ≤ 4 }
 {
-    for k in 0..16 {
-        check_place::<G, L>(rt, good, k * L::code_width(), wrong)?;
+    for place in (0..64).step_by(L::code_width()).take(16) {
+        check_place::<G, L>(rt, good, place, wrong)?;
     }
     Ok(())
 }
@@ -115,7 +116,8 @@ fn check_codes<G: Group, L: Linear<G>>(
     last: u32,
     earlier: Wrong,
 ) -> Result<(), Fail>
-    requires { L.width ≤ 4 }
+    requires from { 0 < L.width }
+    requires to { L.width ≤ 4 }
 {
     check_places::<G, L>(rt, &codes, wrong)?;
     write_code(&mut codes, 15 * L::code_width(), L::code_width(), last);

@@ -105,8 +105,8 @@ fn check_code<G: Group>(
 
 // A wrong code at each place in turn.
 fn check_codes<G: Group>(rt: &impl Abort, q: u32, good: &Coefficients) -> Result<(), Fail> {
-    for k in 0..2 * (good.t as usize + 1) {
-        check_code::<G>(rt, q, good, k * G::scalar_width())?;
+    for place in (0..good.size).step_by(G::scalar_width()) {
+        check_code::<G>(rt, q, good, place)?;
     }
     Ok(())
 }

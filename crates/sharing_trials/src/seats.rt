@@ -16,6 +16,7 @@ fn all_seats_and(last: u8) -> [u8; 33] {
     seats
 }
 
+// Line by line: in a table each list would be made a slice first, as they differ in length.
 #[test]
 fn short_lists(rt: HostRuntime) {
     assert!(rt; are_different_seats(&[]));

@@ -12,6 +12,7 @@ fn number_of<G: Group>(x: G::Scalar) -> u64 {
     G::scalar_number(x).into()
 }
 
+// q stands beside the group's name, here and in the other tests: a trait with a constant would be more for one number.
 fn check_sums<G: Group>(rt: &impl Abort, q: u32, a: u32, b: u32)
     requires { 0 < q }
 {

@@ -26,6 +26,7 @@ fn check_code(
     assert_eq!(rt; read, Ok(number));
 }
 
+// This and the next differ in the group's calls alone, and have the rest in common above.
 fn check_element<G: Group>(rt: &impl Abort, element: G::Element) {
     let number = G::element_number(element);
     let mut bytes = [0xAA; 8];
