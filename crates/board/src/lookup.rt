@@ -88,7 +88,7 @@ impl<'a, G: Group> Ceremony<'a, G> {
     {
         let committed = commit::<G>(share);
         self.value_in(Kind::Deal, dealer, seat)
-            .is_some_and(move |value| G::equal(committed, value))
+            .is_some_and(move |value| committed == value)
     }
 
     // Equation 2.
@@ -97,7 +97,7 @@ impl<'a, G: Group> Ceremony<'a, G> {
     {
         let power = power_of::<G>(G::g(), share.left.value);
         self.value_in(Kind::Exposure, dealer, seat)
-            .is_some_and(move |value| G::equal(power, value))
+            .is_some_and(move |value| power == value)
     }
 
     // How many seats have a record of a kind taken that names a dealer.

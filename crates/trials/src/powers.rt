@@ -32,20 +32,20 @@ impl<G: Group> Iterator for Powers<G> {
 fn check_small_powers<G: Group>(rt: &impl Abort, base: G::Element) {
     for (n, expected) in (0..64).zip(Powers::<G>::of(base)) {
         let power = power_of::<G>(base, G::reduced(n));
-        assert!(rt; G::equal(power, expected), "{}", n);
+        assert!(rt; power == expected, "{}", n);
     }
 }
 
 // The q-th power is the unit: the power of q - 1, times the base.
 fn check_last_power<G: Group>(rt: &impl Abort, base: G::Element) {
     let last = power_of::<G>(base, G::negate(G::reduced(1)));
-    assert!(rt; G::equal(G::product(last, base), G::unit()));
+    assert!(rt; G::product(last, base) == G::unit());
 }
 
 // Products with g come back to the unit at the q-th, and not before.
 fn check_round<G: Group>(rt: &impl Abort, q: u32) {
     for (n, power) in (0..=q).zip(Powers::<G>::of(G::g())) {
-        assert_eq!(rt; G::equal(power, G::unit()), n == 0 || n == q, "{}", n);
+        assert_eq!(rt; power == G::unit(), n == 0 || n == q, "{}", n);
     }
 }
 
