@@ -1,5 +1,4 @@
 -- The state of a ceremony, and the board that its bytes say. Definitions.
-use Rattle.std.specs.Prelude.{ℕ}
 use Rattle.group.specs.declared.group.Group.{Ghosts}
 use Rattle.protocol.specs.Board.{Board}
 use Rattle.board_index.specs.State.{State, board_of}

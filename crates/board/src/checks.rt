@@ -20,22 +20,26 @@ use sharing::evaluation::judge_codes;
 use sharing::linear::Linear;
 use sharing::scalar::Scalar;
 
-// The elements of a Deal or an Exposure.
-fn judge_elements<G: Group>(bytes: &[u8], count: usize) -> Result<(), RecordFault>
-    requires { 5 + count * G.meaning.w ≤ length bytes.now }
-    ensures { JudgesRecord (refused_from (element_refused G.meaning bytes.now) G.meaning.w 5 count) result }
+// The codes of a record, from a place on: its elements or its scalars.
+fn judge<G: Group, L: Linear<G>>(
+    bytes: &[u8],
+    place: usize,
+    count: usize,
+) -> Result<(), RecordFault>
+    requires { place + count * L.width ≤ length bytes.now }
+    ensures { JudgesRecord (refused_from (L.refusal bytes.now) L.width place count) result }
 {
-    judge_codes::<G, Element<G, G::Element>>(bytes, 5, count)?;
+    judge_codes::<G, L>(bytes, place, count)?;
     Ok(())
 }
 
-// The share in an Answer, an Objection or a Reveal.
-fn judge_share<G: Group>(bytes: &[u8]) -> Result<(), RecordFault>
-    requires { 6 + 2 * G.meaning.s ≤ length bytes.now }
-    ensures { JudgesRecord (refused_from (scalar_refused G.meaning bytes.now) G.meaning.s 6 2) result }
+// The share in an Answer, an Objection or a Reveal, whose codes were judged.
+pub(crate) fn share_of<G: Group>(bytes: &[u8]) -> Share<G>
+    requires within { 6 + 2 * G.meaning.s ≤ length bytes.now }
+    requires judged { refused_from (scalar_refused G.meaning bytes.now) G.meaning.s 6 2 ≡ None }
+    ensures { (G.scalar_of result.left.value, G.scalar_of result.right.value) ≡ share_in (decoded_from (λ place. code_at bytes.now G.meaning.s place) G.meaning.s 6 2) }
 {
-    judge_codes::<G, Scalar<G, G::Scalar>>(bytes, 6, 2)?;
-    Ok(())
+    <Share<G> as Linear<G>>::known(bytes, 6)
 }
 
 impl<'a, G: Group> Ceremony<'a, G> {
@@ -66,26 +70,6 @@ impl<'a, G: Group> Ceremony<'a, G> {
 }
 
 impl<'a, G: Group> Ceremony<'a, G> {
-    // Equation 1, for the share in the bytes of a record.
-    pub(crate) fn opens_in(&self, bytes: &[u8], dealer: u8, seat: u8) -> bool
-        requires within { 6 + 2 * G.meaning.s ≤ length bytes.now }
-        requires judged { refused_from (scalar_refused G.meaning bytes.now) G.meaning.s 6 2 ≡ None }
-        ensures { result ≡ passes1 G.meaning (board self.now) dealer seat (share_in (decoded_from (λ place. code_at bytes.now G.meaning.s place) G.meaning.s 6 2)) }
-    {
-        self.opens(dealer, seat, <Share<G> as Linear<G>>::known(bytes, 6))
-    }
-
-    // Equation 2, for its first part.
-    fn is_exposed_in(&self, bytes: &[u8], dealer: u8, seat: u8) -> bool
-        requires within { 6 + 2 * G.meaning.s ≤ length bytes.now }
-        requires judged { refused_from (scalar_refused G.meaning bytes.now) G.meaning.s 6 2 ≡ None }
-        ensures { result ≡ passes2 G.meaning (board self.now) dealer seat (share_in (decoded_from (λ place. code_at bytes.now G.meaning.s place) G.meaning.s 6 2)).0 }
-    {
-        self.is_exposed(dealer, seat, <Share<G> as Linear<G>>::known(bytes, 6))
-    }
-}
-
-impl<'a, G: Group> Ceremony<'a, G> {
     pub(crate) fn check_deal(&self, bytes: &[u8]) -> Result<(), CeremonyFault>
         requires kind { OfKind G.meaning self.now.t bytes.now Deal }
         requires phase { self.now.phase ≡ Dealing }
@@ -95,7 +79,7 @@ impl<'a, G: Group> Ceremony<'a, G> {
         if self.has(Kind::Deal, writer, 0) {
             return Err(CeremonyFault::Repeated { place: 4 });
         }
-        judge_elements::<G>(bytes, self.t as usize + 1)?;
+        judge::<G, Element<G, G::Element>>(bytes, 5, self.t as usize + 1)?;
         Ok(())
     }
 
@@ -126,7 +110,7 @@ impl<'a, G: Group> Ceremony<'a, G> {
         if self.has(Kind::Answer, dealer, complainer) {
             return Err(CeremonyFault::Repeated { place: 4 });
         }
-        judge_share::<G>(bytes)?;
+        judge::<G, Scalar<G, G::Scalar>>(bytes, 6, 2)?;
         Ok(())
     }
 
@@ -142,7 +126,7 @@ impl<'a, G: Group> Ceremony<'a, G> {
         if self.has(Kind::Exposure, writer, 0) {
             return Err(CeremonyFault::Repeated { place: 4 });
         }
-        judge_elements::<G>(bytes, self.t as usize + 1)?;
+        judge::<G, Element<G, G::Element>>(bytes, 5, self.t as usize + 1)?;
         Ok(())
     }
 
@@ -159,12 +143,12 @@ impl<'a, G: Group> Ceremony<'a, G> {
         if self.has(Kind::Objection, objector, dealer) {
             return Err(CeremonyFault::Repeated { place: 4 });
         }
-        judge_share::<G>(bytes)?;
-        if !self.opens_in(bytes, dealer, objector) {
+        judge::<G, Scalar<G, G::Scalar>>(bytes, 6, 2)?;
+        if !self.opens(dealer, objector, share_of::<G>(bytes)) {
             let equation = Equation::First;
             return Err(CeremonyFault::Unequal { place: 6, equation });
         }
-        if self.is_exposed_in(bytes, dealer, objector) {
+        if self.is_exposed(dealer, objector, share_of::<G>(bytes)) {
             let equation = Equation::Second;
             return Err(CeremonyFault::Unequal { place: 6, equation });
         }
@@ -184,8 +168,8 @@ impl<'a, G: Group> Ceremony<'a, G> {
         if self.has(Kind::Reveal, writer, dealer) {
             return Err(CeremonyFault::Repeated { place: 4 });
         }
-        judge_share::<G>(bytes)?;
-        if !self.opens_in(bytes, dealer, writer) {
+        judge::<G, Scalar<G, G::Scalar>>(bytes, 6, 2)?;
+        if !self.opens(dealer, writer, share_of::<G>(bytes)) {
             let equation = Equation::First;
             return Err(CeremonyFault::Unequal { place: 6, equation });
         }

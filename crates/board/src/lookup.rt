@@ -1,9 +1,10 @@
 // What the taken records say and decide, found by the index.
-ghost use Rattle.std.specs.Prelude.{◌≡◌, ℕ, ◌+◌, ◌*◌, ◌≤◌, true, not, ◌||◌, length, nat_le, nat_lt};
+ghost use Rattle.std.specs.Prelude.{◌≡◌, ℕ, ◌+◌, ◌*◌, ◌≤◌, true, not, ◌||◌, length, nat_le, nat_lt, ◌==◌};
 ghost use Rattle.group.specs.Monoid.{power};
 ghost use Rattle.group.specs.Meaning.{products};
 ghost use Rattle.protocol.specs.declared.kind.Kind.TheVariants.{Deal, Exposure};
-ghost use Rattle.protocol.specs.Seats.{count, every};
+ghost use Rattle.sharing.specs.Value.{value_at};
+ghost use Rattle.protocol.specs.Seats.{count, every, holds};
 ghost use Rattle.protocol.specs.Record.{layout_of, Elements, SecondAndShare};
 ghost use Rattle.protocol.specs.Board.{entry, has as is_taken, passes1, passes2, complained, answered, qualified, contested, revealed, all_revealed, starts, phase_of, exposure_of};
 ghost use Rattle.board_index.specs.State.{is_indexed, look};
@@ -82,13 +83,20 @@ impl<'a, G: Group> Ceremony<'a, G> {
         Some(first.value)
     }
 
+    // Whether an element is the value at a seat of those in a dealer's Deal or Exposure.
+    fn is_value_in(&self, kind: Kind, dealer: u8, seat: u8, element: G::Element) -> bool
+        requires kind { (is_indexed kind ≡ true) × (layout_of kind ≡ Elements) }
+        ensures { result ≡ holds (entry (board self.now).taken kind dealer 0) (λ codes. G.number_of element == value_at (products G.meaning) codes seat) }
+    {
+        self.value_in(kind, dealer, seat)
+            .is_some_and(move |value| element == value)
+    }
+
     // Equation 1, for a dealer, a seat and a share.
     pub fn opens(&self, dealer: u8, seat: u8, share: Share<G>) -> bool
         ensures { result ≡ passes1 G.meaning (board self.now) dealer seat (G.scalar_of share.left.value, G.scalar_of share.right.value) }
     {
-        let committed = commit::<G>(share);
-        self.value_in(Kind::Deal, dealer, seat)
-            .is_some_and(move |value| committed == value)
+        self.is_value_in(Kind::Deal, dealer, seat, commit::<G>(share))
     }
 
     // Equation 2.
@@ -96,8 +104,7 @@ impl<'a, G: Group> Ceremony<'a, G> {
         ensures { result ≡ passes2 G.meaning (board self.now) dealer seat (G.scalar_of share.left.value) }
     {
         let power = power_of::<G>(G::g(), share.left.value);
-        self.value_in(Kind::Exposure, dealer, seat)
-            .is_some_and(move |value| power == value)
+        self.is_value_in(Kind::Exposure, dealer, seat, power)
     }
 
     // How many seats have a record of a kind taken that names a dealer.

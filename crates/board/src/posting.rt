@@ -12,6 +12,7 @@ ghost use Rattle.frames.specs.Reading.{OfKind};
 ghost use Rattle.board.specs.Posting.{fault_of, posting_answer, AfterPosting};
 
 use crate::ceremony::Ceremony;
+use crate::checks::share_of;
 use frames::frame::read_kind;
 use group::group::Group;
 use protocol::fault::CeremonyFault;
@@ -70,7 +71,7 @@ impl<'a, G: Group> Ceremony<'a, G> {
         ensures { kind ≡ Answer → result ≡ passes1 G.meaning (board self.now) (read_record G.meaning self.now.t Answer bytes.now).writer (read_record G.meaning self.now.t Answer bytes.now).second (share_in (read_record G.meaning self.now.t Answer bytes.now).codes) }
     {
         match kind {
-            Kind::Answer => self.opens_in(bytes, bytes[4], bytes[5]),
+            Kind::Answer => self.opens(bytes[4], bytes[5], share_of::<G>(bytes)),
             _ => false,
         }
     }

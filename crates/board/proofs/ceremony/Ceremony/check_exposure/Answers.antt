@@ -24,9 +24,9 @@ returns-then-has g c =
     let h = behind g.G.Group.meaning (state_of c.args.self.now) c.args.bytes.now Exposure Exposing _ c.args.self.now.kept c.requires.kind c.requires.phase refl (λ e. omega arith) refl in
     search rules
 
-pub returns-in_err-judge_elements : goal.returns-in_err-judge_elements
+pub returns-in_err-judge : goal.returns-in_err-judge
 unfolding first_fault tests_of
-returns-in_err-judge_elements g c =
+returns-in_err-judge g c =
     let h = behind g.G.Group.meaning (state_of c.args.self.now) c.args.bytes.now Exposure Exposing _ c.args.self.now.kept c.requires.kind c.requires.phase refl (λ e. omega arith) refl in
     search rules
 

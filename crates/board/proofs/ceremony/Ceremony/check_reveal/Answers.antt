@@ -30,15 +30,15 @@ returns-then-has g c =
     let h = behind g.G.Group.meaning (state_of c.args.self.now) c.args.bytes.now Reveal Revealing _ c.args.self.now.kept c.requires.kind c.requires.phase refl (λ e. omega arith) refl in
     search rules
 
-pub returns-in_err-judge_share : goal.returns-in_err-judge_share
+pub returns-in_err-judge : goal.returns-in_err-judge
 unfolding first_fault tests_of
-returns-in_err-judge_share g c =
+returns-in_err-judge g c =
     let h = behind g.G.Group.meaning (state_of c.args.self.now) c.args.bytes.now Reveal Revealing _ c.args.self.now.kept c.requires.kind c.requires.phase refl (λ e. omega arith) refl in
     search rules
 
-pub returns-then-not-opens_in : goal.returns-then-not-opens_in
+pub returns-then-not-opens : goal.returns-then-not-opens
 unfolding first_fault tests_of
-returns-then-not-opens_in g c =
+returns-then-not-opens g c =
     let h = behind g.G.Group.meaning (state_of c.args.self.now) c.args.bytes.now Reveal Revealing _ c.args.self.now.kept c.requires.kind c.requires.phase refl (λ e. omega arith) refl in
     search rules
 

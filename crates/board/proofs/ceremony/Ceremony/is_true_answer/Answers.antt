@@ -6,8 +6,8 @@ use Rattle.board.specs.State.{state_of}
 use Rattle.board.proofs.Answering.{answer_judged}
 use Rattle.board.proofs.ceremony.Ceremony.is_true_answer.Goals as goal
 
-pub opens_in-requires : goal.opens_in-requires
-opens_in-requires g c =
+pub share_of-requires : goal.share_of-requires
+share_of-requires g c =
     let m = g.G.Group.meaning in
     let size = c.requires.kind.size ∙ ap (λ (k : Kind). 2 + length_of m c.args.self.now.t (layout_of k)) c.in-Answer.is in
     record {
