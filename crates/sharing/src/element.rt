@@ -44,6 +44,8 @@ impl<E: Copy, G: Group<Element = E>> Linear<G> for Element<G, E> {
 
     ghost judged = { element_judged G.Group.meaning };
 
+    ghost exponent = { G.Group.lawful.order };
+
     fn zero() -> Element<G, E> {
         Element {
             value: G::unit(),

@@ -37,8 +37,8 @@ pub fn weight_of<G: Group>(seats: &[u8], m: u8) -> G::Scalar
     ensures { G.scalar_of result ≡ weight G.meaning.q seats.now m }
 {
     let mut product = G::reduced(1);
-    for k in (0..seats.len()).rev() {
-        product = G::multiply(factor_of::<G>(seats[k], m), product);
+    for l in seats {
+        product = G::multiply(product, factor_of::<G>(*l, m));
     }
     product
 }
@@ -51,9 +51,9 @@ pub fn interpolate_known<G: Group, L: Linear<G>>(seats: &[u8], codes: &[u8], at:
     ensures { L.of result ≡ interpolated L.sum G.Group.meaning.q (entries_from (L.decoded codes.now) L.width at seats.now) }
 {
     let mut sum = L::zero();
-    for k in (0..seats.len()).rev() {
+    for (k, m) in seats.iter().enumerate() {
         let entry = L::known(codes, at + k * L::code_width());
-        sum = entry.scale(weight_of::<G>(seats, seats[k])).add(sum);
+        sum = sum.add(entry.scale(weight_of::<G>(seats, *m)));
     }
     sum
 }

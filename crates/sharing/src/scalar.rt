@@ -5,7 +5,7 @@ ghost use Rattle.group.specs.Code.{code, code_at};
 ghost use Rattle.group.specs.CodeLaws.{code_length};
 ghost use Rattle.sharing.specs.Linear.{scalar_sum};
 ghost use Rattle.sharing.specs.Codes.{scalar_refused};
-ghost use Rattle.sharing.specs.LinearLaws.{scalar_commutative, scalar_judged};
+ghost use Rattle.sharing.specs.LinearLaws.{scalar_commutative, scalar_exponent, scalar_judged};
 
 use crate::linear::Linear;
 use group::codes::{read_code, read_scalar, write_scalar};
@@ -43,6 +43,8 @@ impl<S: Copy, G: Group<Scalar = S>> Linear<G> for Scalar<G, S> {
     ghost decoded = { λ bytes at. code_at bytes G.Group.meaning.s at };
 
     ghost judged = { scalar_judged G.Group.meaning };
+
+    ghost exponent = { scalar_exponent G.Group.meaning.q };
 
     fn zero() -> Scalar<G, S> {
         Scalar {
