@@ -1,11 +1,11 @@
-use Rattle.std.proofs.Common.{ℕ, ◌+◌, ◌*◌, ◌%◌, ◌<◌, drop, sym, ap, ◌∙◌, mul-one, one-mul, mod-eq_of_lt, arith}
+use Rattle.std.proofs.Common.{ℕ, ◌+◌, ◌*◌, ◌%◌, ◌<◌, drop, sym, ap, ◌∙◌, mul-one, one-mul, mod-eq_of_lt, arith, rules}
 use Rattle.group.specs.ModularLaws.{mod_mul}
 use Rattle.sharing.specs.Interpolation.{weight}
 use Rattle.sharing.proofs.SeatWalk.{seat_low, weight_below, weight_none, weight_next}
 use Rattle.sharing.proofs.interpolation.weight_of.Goals as goal
 
 pub factor_of-requires : goal.factor_of-requires
-factor_of-requires g c = (seat_low c.args.seats.now c.requires.0 c.loop-l.l-index c.loop-l-test.true, c.requires.1)
+factor_of-requires g c = let low = seat_low c.args.seats.now c.requires.0 c.loop-l.l-index c.loop-l-test.true in search rules
 
 pub loop-l-init : goal.loop-l-init
 loop-l-init g c =
