@@ -32,6 +32,7 @@ pub fn value_of_known<G: Group, L: Linear<G>>(codes: &[u8], at: usize, count: us
 {
     let j = G::reduced(seat as u32);
     let mut value = L::zero();
+    // By index: what a code says depends on its place in the bytes, also in `known`.
     for k in (0..count).rev() {
         let coefficient = L::known(codes, at + k * L::code_width());
         value = coefficient.add(value.scale(j));

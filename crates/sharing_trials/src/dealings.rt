@@ -3,7 +3,7 @@ ghost use Rattle.std.specs.Prelude.{◌≤◌};
 
 use super::sample::fill_scalars;
 use binary_polynomials::BinaryPolynomials;
-use dealing::deal::{draw_up_deal, draw_up_share};
+use dealing::deal::Coefficients;
 use dealing::trial::test_share;
 use group::group::Group;
 use residues::Residues;
@@ -28,13 +28,13 @@ fn check_head(rt: &impl Abort, record: &[u8; 80], size: usize, seat: u8) {
 
 fn check_share<G: Group>(
     rt: &impl Abort,
-    t: u8,
-    coefficients: &[u8],
+    coefficients: Coefficients,
     commitments: &[u8],
     seat: u8,
 ) -> Result<(), Fail> {
+    let t = coefficients.t;
     let mut share = [0xAA; 12];
-    let size = draw_up_share::<G>(t, coefficients, seat, &mut share)?;
+    let size = coefficients.draw_up_share::<G>(seat, &mut share)?;
     assert_eq!(rt; size, 2 * G::scalar_width());
     check_rest(rt, &share, size);
     if size > 12 {
@@ -64,15 +64,19 @@ fn check_share<G: Group>(
 fn check_dealing<G: Group>(rt: &impl Abort, seat: u8, t: u8) -> Result<(), Fail>
     requires { t ≤ 15 }
 {
-    let mut coefficients = [0; 128];
-    fill_scalars::<G>(t.into(), &mut coefficients);
+    let mut codes = [0; 128];
+    fill_scalars::<G>(t.into(), &mut codes);
     let count = t as usize + 1;
     let given = 2 * (count * G::scalar_width());
     let mut record = [0xAA; 80];
     if given > 128 {
         return Err(Fail::new("too many coefficients"));
     }
-    let size = draw_up_deal::<G>(seat, t, &coefficients[0..given], &mut record)?;
+    let coefficients = Coefficients {
+        t,
+        codes: &codes[0..given],
+    };
+    let size = coefficients.draw_up_deal::<G>(seat, &mut record)?;
     assert_eq!(rt; size, 5 + count * G::width(), "t = {}", t);
     check_head(rt, &record, size, seat);
     check_rest(rt, &record, size);
@@ -80,7 +84,7 @@ fn check_dealing<G: Group>(rt: &impl Abort, seat: u8, t: u8) -> Result<(), Fail>
         return Err(Fail::new("no record"));
     }
     for j in 1..33u8 {
-        check_share::<G>(rt, t, &coefficients[0..given], &record[5..size], j)?;
+        check_share::<G>(rt, coefficients, &record[5..size], j)?;
     }
     Ok(())
 }

@@ -4,7 +4,7 @@ ghost use Rattle.std.specs.Prelude.{◌≤◌, length};
 use super::dealings::check_rest;
 use super::sample::fill_scalars;
 use binary_polynomials::BinaryPolynomials;
-use dealing::deal::{draw_up_deal, draw_up_share};
+use dealing::deal::Coefficients;
 use dealing::fault::DealingFault;
 use group::codes::write_code;
 use group::fault::GroupFault;
@@ -16,25 +16,25 @@ use std::test::Fail;
 // The Deal of the dealer at seat 1, into the first bytes of the output.
 fn deal_into<G: Group>(
     t: u8,
-    coefficients: &[u8],
+    codes: &[u8],
     room: usize,
     out: &mut [u8],
 ) -> Result<usize, DealingFault>
     requires { room ≤ length out.old }
 {
-    draw_up_deal::<G>(1, t, coefficients, &mut out[0..room])
+    Coefficients { t, codes }.draw_up_deal::<G>(1, &mut out[0..room])
 }
 
 // The share for seat 3, into the first bytes of the output.
 fn share_into<G: Group>(
     t: u8,
-    coefficients: &[u8],
+    codes: &[u8],
     room: usize,
     out: &mut [u8],
 ) -> Result<usize, DealingFault>
     requires { room ≤ length out.old }
 {
-    draw_up_share::<G>(t, coefficients, 3, &mut out[0..room])
+    Coefficients { t, codes }.draw_up_share::<G>(3, &mut out[0..room])
 }
 
 // Neither the Deal nor the share is drawn up.

@@ -5,6 +5,6 @@ pub interpolate-requires : goal.interpolate-requires
 interpolate-requires g c =
     let few : length c.args.seats.now ≤ 16 = omega (arith, c.if-seats-gt16.false) in
     record {
-      seats = c.are_different_seats.ensures.sound c.if-not-are_different_seats.false;
+      seats = c.are_different_seats.ensures.0 c.if-not-are_different_seats.false;
       within = omega (arith, mul-le-mul few c.requires);
     }
