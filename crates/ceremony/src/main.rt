@@ -21,7 +21,7 @@ use sharing_laws::{
     logarithms_interpolate, logarithms_unique, openings_differ, openings_interpolate,
     values_interpolate,
 };
-use std::io;
+use std::{fmt, io};
 
 // The dealer's seat, how many seats there are, and the dealer's coefficients.
 #[derive(Drop)]
@@ -31,12 +31,17 @@ struct Dealing<'a> {
     coefficients: Coefficients<'a>,
 }
 
-fn print_bytes(rt: HostRuntime, what: &str, bytes: &[u8]) -> io::Result<()> {
-    print!(rt; "{what}:")?;
-    for b in bytes {
-        print!(rt; " {b:02x}")?;
+// Bytes in hexadecimal, each behind a space.
+#[derive(Clone, Copy)]
+struct Hex<'a>(&'a [u8]);
+
+impl fmt::Display for Hex<'_> {
+    fn fmt<W: fmt::Write>(&self, f: &mut fmt::Formatter<W>) -> fmt::Result {
+        for b in self.0 {
+            write!(f, " {b:02x}")?;
+        }
+        Ok(())
     }
-    println!(rt; "")
 }
 
 // Tests one share, read from its bytes, against the commitments, read from theirs.
@@ -78,10 +83,10 @@ fn deal_to_seat<G: Group>(
             if length > 8 {
                 return Ok(());
             }
-            print_bytes(rt, "  share", &share[0..length])?;
+            println!(rt; "  share:{}", Hex(&share[0..length]))?;
             print_test::<G>(rt, coefficients.t, commitments, &share[0..length], seat)?;
             share[0] ^= 1;
-            print_bytes(rt, "  share with a bit changed", &share[0..length])?;
+            println!(rt; "  share with a bit changed:{}", Hex(&share[0..length]))?;
             print_test::<G>(rt, coefficients.t, commitments, &share[0..length], seat)
         }
         Err(fault) => println!(rt; "  the share: {fault}"),
@@ -95,14 +100,14 @@ fn deal_in<G: Group>(rt: HostRuntime, dealing: &Dealing) -> io::Result<()> {
     let h = G::element_number(G::h());
     println!(rt; "group {number}: g = {g}, h = {h}")?;
     let coefficients = dealing.coefficients;
-    print_bytes(rt, "coefficients", coefficients.codes)?;
+    println!(rt; "coefficients:{}", Hex(coefficients.codes))?;
     let mut record = [0u8; 128];
     match coefficients.draw_up_deal::<G>(dealing.dealer, &mut record) {
         Ok(length) => {
             if length < 5 || length > 128 {
                 return Ok(());
             }
-            print_bytes(rt, "Deal", &record[0..length])?;
+            println!(rt; "Deal:{}", Hex(&record[0..length]))?;
             for seat in 1..dealing.seats.saturating_add(1) {
                 deal_to_seat::<G>(rt, dealing, &record[5..length], seat)?;
             }
@@ -137,7 +142,7 @@ fn recover<G: Group>(rt: HostRuntime, dealing: &Dealing, seats: &[u8]) -> io::Re
     if seats.len() > 16 || !are_different_seats(seats) {
         return println!(rt; "these are not up to 16 different seats");
     }
-    print_bytes(rt, "from seats", seats)?;
+    println!(rt; "from seats:{}", Hex(seats))?;
     match interpolate::<G, Share<G>>(seats, &shares, 0) {
         Ok(opening) => {
             let secret = G::scalar_number(opening.left.value);

@@ -27,7 +27,7 @@ pub fn factor_of<G: Group>(l: u8, m: u8) -> G::Scalar
     }
     match G::invert(difference_of::<G>(l, m)) {
         Some(inverse) => G::multiply(G::reduced(l as u32), inverse),
-        None => unreachable(),
+        None => unreachable!(),
     }
 }
 

@@ -13,10 +13,22 @@ use group::fault::GroupFault;
 use group::group::Group;
 use std::marker::PhantomData;
 
+// S is a parameter, since a struct that holds an associated type cannot be `Copy`.
 #[derive_where(Clone, Copy; S)]
 pub struct Scalar<G, S> {
     pub value: S,
     pub of: PhantomData<G>,
+}
+
+impl<G, S> Scalar<G, S> {
+    fn new(value: S) -> Scalar<G, S>
+        ensures { result.value ≡ value }
+    {
+        Scalar {
+            value,
+            of: PhantomData,
+        }
+    }
 }
 
 impl<S: Copy, G: Group<Scalar = S>> Linear<G> for Scalar<G, S> {
@@ -47,24 +59,15 @@ impl<S: Copy, G: Group<Scalar = S>> Linear<G> for Scalar<G, S> {
     ghost exponent = { scalar_exponent G.Group.meaning.q };
 
     fn zero() -> Scalar<G, S> {
-        Scalar {
-            value: G::reduced(0),
-            of: PhantomData,
-        }
+        Scalar::new(G::reduced(0))
     }
 
     fn add(self, other: Scalar<G, S>) -> Scalar<G, S> {
-        Scalar {
-            value: G::add(self.value, other.value),
-            of: PhantomData,
-        }
+        Scalar::new(G::add(self.value, other.value))
     }
 
     fn scale(self, by: S) -> Scalar<G, S> {
-        Scalar {
-            value: G::multiply(by, self.value),
-            of: PhantomData,
-        }
+        Scalar::new(G::multiply(by, self.value))
     }
 
     fn code_width() -> usize {
@@ -72,18 +75,11 @@ impl<S: Copy, G: Group<Scalar = S>> Linear<G> for Scalar<G, S> {
     }
 
     fn read(codes: &[u8], at: usize) -> Result<Scalar<G, S>, GroupFault> {
-        let value = read_scalar::<G>(codes, at)?;
-        Ok(Scalar {
-            value,
-            of: PhantomData,
-        })
+        Ok(Scalar::new(read_scalar::<G>(codes, at)?))
     }
 
     fn known(codes: &[u8], at: usize) -> Scalar<G, S> {
-        Scalar {
-            value: G::reduced(read_code(codes, at, G::scalar_width())),
-            of: PhantomData,
-        }
+        Scalar::new(G::reduced(read_code(codes, at, G::scalar_width())))
     }
 
     fn write(self, out: &mut [u8], at: usize) {
