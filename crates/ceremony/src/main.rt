@@ -108,7 +108,7 @@ fn deal_in<G: Group>(rt: HostRuntime, dealing: &Dealing) -> io::Result<()> {
                 return Ok(());
             }
             println!(rt; "Deal:{}", Hex(&record[0..length]))?;
-            for seat in 1..dealing.seats.saturating_add(1) {
+            for seat in 1..=dealing.seats {
                 deal_to_seat::<G>(rt, dealing, &record[5..length], seat)?;
             }
             Ok(())
