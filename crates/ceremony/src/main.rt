@@ -123,6 +123,7 @@ fn fill_shares<G: Group>(
     seats: &[u8],
     shares: &mut [u8],
 ) -> Result<(), DealingFault> {
+    // The place moves by the length that each call tells.
     let mut place = 0;
     for seat in seats {
         if place > shares.len() {

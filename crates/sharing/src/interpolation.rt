@@ -51,6 +51,7 @@ pub fn interpolate_known<G: Group, L: Linear<G>>(seats: &[u8], codes: &[u8], at:
     ensures { L.of result ≡ interpolated L.sum G.Group.meaning.q (entries_from (L.decoded codes.now) L.width at seats.now) }
 {
     let mut sum = L::zero();
+    // The index tells the place of the entry's code, on which depends what the code says.
     for (k, m) in seats.iter().enumerate() {
         let entry = L::known(codes, at + k * L::code_width());
         sum = sum.add(entry.scale(weight_of::<G>(seats, *m)));
