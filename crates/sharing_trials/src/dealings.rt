@@ -1,7 +1,7 @@
 // Whole dealings: each share passes, and does not with a bit changed.
 use super::sample::scalar_codes;
 use binary_polynomials::BinaryPolynomials;
-use dealing::deal::{draw_up_deal, draw_up_share};
+use dealing::deal::Coefficients;
 use dealing::trial::test_share;
 use group::group::Group;
 use residues::Residues;
@@ -23,13 +23,13 @@ fn check_head(rt: &impl Abort, record: &[u8; 80], size: usize, seat: u8) {
 
 fn check_share<G: Group>(
     rt: &impl Abort,
-    t: u8,
-    coefficients: &[u8],
+    coefficients: Coefficients,
     commitments: &[u8],
     seat: u8,
 ) -> Result<(), Fail> {
+    let t = coefficients.t;
     let mut share = [0xAA; 12];
-    let size = draw_up_share::<G>(t, coefficients, seat, &mut share)?;
+    let size = coefficients.draw_up_share::<G>(seat, &mut share)?;
     assert_eq!(rt; size, 2 * G::scalar_width());
     check_rest(rt, &share, size);
     if size > 12 {
@@ -54,14 +54,18 @@ fn check_share<G: Group>(
 }
 
 fn check_dealing<G: Group>(rt: &impl Abort, seat: u8, t: u8) -> Result<(), Fail> {
-    let coefficients = scalar_codes::<G, 128>(t.into());
+    let codes = scalar_codes::<G, 128>(t.into());
     let count = t as usize + 1;
     let given = 2 * (count * G::scalar_width());
     let mut record = [0xAA; 80];
     if given > 128 {
         return Err(Fail::new("too many coefficients"));
     }
-    let size = draw_up_deal::<G>(seat, t, &coefficients[..given], &mut record)?;
+    let coefficients = Coefficients {
+        t,
+        codes: &codes[..given],
+    };
+    let size = coefficients.draw_up_deal::<G>(seat, &mut record)?;
     assert_eq!(rt; size, 5 + count * G::width(), "t = {}", t);
     check_head(rt, &record, size, seat);
     check_rest(rt, &record, size);
@@ -69,7 +73,7 @@ fn check_dealing<G: Group>(rt: &impl Abort, seat: u8, t: u8) -> Result<(), Fail>
         return Err(Fail::new("no record"));
     }
     for j in 1..33 {
-        check_share::<G>(rt, t, &coefficients[..given], &record[5..size], j)?;
+        check_share::<G>(rt, coefficients, &record[5..size], j)?;
     }
     Ok(())
 }

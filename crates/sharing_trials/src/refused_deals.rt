@@ -4,7 +4,7 @@ ghost use Rattle.std.specs.Prelude.{◌<◌, ◌≤◌};
 use super::dealings::check_rest;
 use super::sample::scalar_codes;
 use binary_polynomials::BinaryPolynomials;
-use dealing::deal::{draw_up_deal, draw_up_share};
+use dealing::deal::Coefficients;
 use dealing::fault::DealingFault;
 use group::codes::write_code;
 use group::fault::GroupFault;
@@ -15,7 +15,7 @@ use std::test::Fail;
 
 // Coefficients for a threshold, as codes with more bytes behind them.
 #[derive(Clone, Copy)]
-struct Coefficients {
+struct Sample {
     t: u8,
     bytes: [u8; 144],
     size: usize,
@@ -23,30 +23,39 @@ struct Coefficients {
     ghost room: { size < 144 },
 }
 
-impl Coefficients {
-    fn new<G: Group>(t: u8, seed: u32) -> Result<Coefficients, Fail> {
+impl Sample {
+    fn new<G: Group>(t: u8, seed: u32) -> Result<Sample, Fail> {
         let bytes = scalar_codes::<G, 144>(seed);
         let size = 2 * ((t as usize + 1) * G::scalar_width());
         if size < 1 || size > 143 {
             return Err(Fail::new("no room"));
         }
-        Ok(Coefficients { t, bytes, size })
+        Ok(Sample { t, bytes, size })
     }
 
-    fn codes(&self) -> &[u8] {
-        &self.bytes[..self.size]
+    fn codes(&self) -> Coefficients<'_> {
+        Coefficients {
+            t: self.t,
+            codes: &self.bytes[..self.size],
+        }
     }
 
-    fn short(&self) -> &[u8] {
-        &self.bytes[..self.size - 1]
+    fn short(&self) -> Coefficients<'_> {
+        Coefficients {
+            t: self.t,
+            codes: &self.bytes[..self.size - 1],
+        }
     }
 
-    fn long(&self) -> &[u8] {
-        &self.bytes[..self.size + 1]
+    fn long(&self) -> Coefficients<'_> {
+        Coefficients {
+            t: self.t,
+            codes: &self.bytes[..self.size + 1],
+        }
     }
 
     // The same ones but for the code at a place.
-    fn with_code<G: Group>(mut self, place: usize, number: u32) -> Result<Coefficients, Fail> {
+    fn with_code<G: Group>(mut self, place: usize, number: u32) -> Result<Sample, Fail> {
         if place > 140 {
             return Err(Fail::new("no room"));
         }
@@ -66,17 +75,17 @@ fn check_told(rt: &impl Abort, fault: DealingFault, number: u8, place: usize, re
 fn check_refused<G: Group>(
     rt: &impl Abort,
     what: &str,
-    t: u8,
-    codes: &[u8],
+    given: Coefficients,
     room: usize,
     fault: DealingFault,
 )
     requires { room ≤ 80 }
 {
+    let t = given.t;
     let mut out = [0xAA; 80];
-    let deal = draw_up_deal::<G>(1, t, codes, &mut out[..room]);
+    let deal = given.draw_up_deal::<G>(1, &mut out[..room]);
     assert_eq!(rt; deal, Err(fault), "Deal, {}, t = {}", what, t);
-    let share = draw_up_share::<G>(t, codes, 3, &mut out[..room]);
+    let share = given.draw_up_share::<G>(3, &mut out[..room]);
     assert_eq!(rt; share, Err(fault), "share, {}, t = {}", what, t);
     check_rest(rt, &out, 0);
 }
@@ -85,17 +94,16 @@ fn check_refused<G: Group>(
 fn check_code<G: Group>(
     rt: &impl Abort,
     q: u32,
-    good: &Coefficients,
+    good: &Sample,
     place: usize,
 ) -> Result<(), Fail> {
     let wrong = good.with_code::<G>(place, q)?;
     let fault = DealingFault::Code(GroupFault::NoCandidate { place });
     check_told(rt, fault, 9, place, 1);
-    check_refused::<G>(rt, "a wrong code", wrong.t, wrong.codes(), 80, fault);
+    check_refused::<G>(rt, "a wrong code", wrong.codes(), 80, fault);
     check_refused::<G>(
         rt,
         "a wrong code and no room",
-        wrong.t,
         wrong.codes(),
         0,
         fault,
@@ -104,7 +112,7 @@ fn check_code<G: Group>(
 }
 
 // A wrong code at each place in turn.
-fn check_codes<G: Group>(rt: &impl Abort, q: u32, good: &Coefficients) -> Result<(), Fail> {
+fn check_codes<G: Group>(rt: &impl Abort, q: u32, good: &Sample) -> Result<(), Fail> {
     for place in (0..good.size).step_by(G::scalar_width()) {
         check_code::<G>(rt, q, good, place)?;
     }
@@ -112,13 +120,13 @@ fn check_codes<G: Group>(rt: &impl Abort, q: u32, good: &Coefficients) -> Result
 }
 
 // One byte too few or too many is told before a wrong code and too small an output are.
-fn check_lengths<G: Group>(rt: &impl Abort, q: u32, good: &Coefficients) -> Result<(), Fail> {
+fn check_lengths<G: Group>(rt: &impl Abort, q: u32, good: &Sample) -> Result<(), Fail> {
     let wrong = good.with_code::<G>(0, q)?;
     let fault = DealingFault::Length;
     check_told(rt, fault, 3, 0, 0);
-    check_refused::<G>(rt, "short", good.t, good.short(), 80, fault);
-    check_refused::<G>(rt, "long", good.t, good.long(), 80, fault);
-    check_refused::<G>(rt, "short and wrong", wrong.t, wrong.short(), 0, fault);
+    check_refused::<G>(rt, "short", good.short(), 80, fault);
+    check_refused::<G>(rt, "long", good.long(), 80, fault);
+    check_refused::<G>(rt, "short and wrong", wrong.short(), 0, fault);
     Ok(())
 }
 
@@ -142,13 +150,13 @@ where
 }
 
 fn check_refusals<G: Group>(rt: &impl Abort, q: u32, t: u8) -> Result<(), Fail> {
-    let good = Coefficients::new::<G>(t, q)?;
+    let good = Sample::new::<G>(t, q)?;
     check_codes::<G>(rt, q, &good)?;
     check_lengths::<G>(rt, q, &good)?;
     let deal = 5 + (t as usize + 1) * G::width();
-    check_room(rt, deal, |out| draw_up_deal::<G>(1, t, good.codes(), out))?;
+    check_room(rt, deal, |out| good.codes().draw_up_deal::<G>(1, out))?;
     let share = 2 * G::scalar_width();
-    check_room(rt, share, |out| draw_up_share::<G>(t, good.codes(), 3, out))
+    check_room(rt, share, |out| good.codes().draw_up_share::<G>(3, out))
 }
 
 fn check_thresholds<G: Group>(rt: &impl Abort, q: u32) -> Result<(), Fail> {
