@@ -91,23 +91,12 @@ fn check_refused<G: Group>(
 }
 
 // A wrong code is told before too small an output is.
-fn check_code<G: Group>(
-    rt: &impl Abort,
-    q: u32,
-    good: &Sample,
-    place: usize,
-) -> Result<(), Fail> {
+fn check_code<G: Group>(rt: &impl Abort, q: u32, good: &Sample, place: usize) -> Result<(), Fail> {
     let wrong = good.with_code::<G>(place, q)?;
     let fault = DealingFault::Code(GroupFault::NoCandidate { place });
     check_told(rt, fault, 9, place, 1);
     check_refused::<G>(rt, "a wrong code", wrong.codes(), 80, fault);
-    check_refused::<G>(
-        rt,
-        "a wrong code and no room",
-        wrong.codes(),
-        0,
-        fault,
-    );
+    check_refused::<G>(rt, "a wrong code and no room", wrong.codes(), 0, fault);
     Ok(())
 }
 
