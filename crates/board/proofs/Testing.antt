@@ -1,5 +1,5 @@
 -- The tests of a kind that are left once the frame, the kind, the length and the phase have passed.
-use Rattle.std.proofs.Common.{◌≡◌, ℕ, ◌+◌, ◌≤◌, Bool, true, false, cond, not, ◌&&◌, ◌||◌, eqb, leb, List, [], ◌∷◌, ◌++◌, Some, None, Option, sym, refl, ap, ◌∙◌, arith}
+use Rattle.std.proofs.Common.{◌≡◌, ℕ, ◌+◌, ◌≤◌, Bool, true, false, cond, not, ◌&&◌, ◌||◌, eqb, leb, List, [], ◌∷◌, ◌++◌, Some, None, Err, Option, sym, refl, ap, ◌∙◌, arith}
 use Rattle.std.proofs.lemmas.Bool.{eq-eqb, ne_eqb, not_from_false, le-leb, and_from}
 use Rattle.group.specs.Meaning.{Meaning}
 use Rattle.protocol.specs.declared.kind.Kind.{Kind}
@@ -13,10 +13,11 @@ use Rattle.protocol.specs.declared.fault.CeremonyFault.TheVariants.{Record, OutO
 use Rattle.protocol.specs.Seats.{or_else, holds}
 use Rattle.protocol.specs.Record.{kind_number, kind_with, kind_field, length_field, layout_of, length_of, writer_of}
 use Rattle.protocol.specs.Board.{Board, phase_of, phase_number, all_revealed}
-use Rattle.protocol.specs.Refusals.{unless, first_fault, frame_test, length_test, phase_test, tests_of, tests_for, posting_fault, is_framed}
+use Rattle.protocol.specs.Refusals.{unless, first_fault, frame_test, length_test, phase_test, tests_of, tests_for, posting_fault, equations_taken, is_framed}
 use Rattle.protocol.proofs.Counting.{clash}
 use Rattle.board_index.specs.State.{State, board_of}
 use Rattle.board_index.specs.Kept.{Kept}
+use Rattle.board.specs.Posting.{answer_of, posting_answer}
 use Rattle.frames.specs.Reading.{OfKind, Misread, is_posted}
 
 -- a test that passes is passed over
@@ -182,3 +183,9 @@ begun phases.Objecting other e = omega arith
 begun phases.Revealing other e = omega arith
 begun phases.Finished other e = omega arith
 begun phases.Void other e = omega arith
+
+-- what posting answers for a record of a kind that its phase does not take
+pub turned_away : (m : Meaning) (s : State) (bytes : List ℕ) (kind : Kind) → Kept m s → OfKind m s.t bytes kind → (s.phase ≡ phases.Unopened → ⊥) → is_home s.phase kind ≡ false
+    → Err (OutOfPhase 2) ≡ posting_answer m (board_of m s) bytes
+turned_away m s bytes kind kept of begun_already away =
+    ap (λ (o : Option CeremonyFault). answer_of o (equations_taken (kind_with (kind_field bytes)))) (out_of_phase m s bytes kind kept of (begun s.phase begun_already) away)

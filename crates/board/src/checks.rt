@@ -56,6 +56,7 @@ impl<'a, G: Group> Ceremony<'a, G> {
     }
 
     // The writer and the second seat of a record that may not name its own writer.
+    #[tactic(auto, unfolding(protocol::specs::Refusals::first_fault))]
     fn two_seats(&self, bytes: &[u8]) -> Result<(u8, u8), CeremonyFault>
         requires within { 5 < length bytes.now }
         ensures { TwoSeats (board self.now) bytes.now result }

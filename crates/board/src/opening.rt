@@ -44,6 +44,7 @@ impl<'a, G: Group> Ceremony<'a, G> {
     }
 
     // What is said against an Opening.
+    #[tactic(auto, unfolding(protocol::specs::Refusals::first_fault, protocol::specs::Refusals::opening_fault))]
     fn check_opening(&self, bytes: &[u8]) -> Result<(), CeremonyFault>
         ensures { fault_of result ≡ opening_fault G.meaning (board self.now) (length self.now.area.now) bytes.now }
     {

@@ -8,7 +8,7 @@ use Rattle.board_index.specs.State.{board_of}
 use Rattle.board.specs.State.{state_of}
 use Rattle.frames.specs.Reading.{Misread}
 use Rattle.board.specs.Posting.{answer_of, AfterPosting}
-use Rattle.board.proofs.Testing.{begun, is_home, out_of_phase, misread, not_opened}
+use Rattle.board.proofs.Testing.{begun, misread, turned_away, not_opened}
 use Rattle.board.proofs.ceremony.Ceremony.post.Goals as goal
 
 pub returns-in-Unopened : goal.returns-in-Unopened
@@ -38,77 +38,56 @@ returns-in_err-kind g c =
 
 pub returns-in_default-2 : goal.returns-in_default-2
 returns-in_default-2 g c =
-    let m = g.G.Group.meaning in
-    let S = state_of c.args.self.now in
-    let away : is_home c.args.self.now.phase c.in_ok-kind.kind ≡ false = search rules in
     record {
-      answer = ap (λ (o : Option CeremonyFault). answer_of o (equations_taken (kind_with (kind_field c.args.bytes.now)))) (out_of_phase m S c.args.bytes.now c.in_ok-kind.kind c.args.self.now.kept c.in_ok-kind.ensures (begun c.args.self.now.phase c.in_default.not-Unopened) away);
+      answer = turned_away g.G.Group.meaning (state_of c.args.self.now) c.args.bytes.now c.in_ok-kind.kind c.args.self.now.kept c.in_ok-kind.ensures c.in_default.not-Unopened (search rules);
       after = refl;
       lender = refl;
     }
 
 pub returns-in_default-2-2 : goal.returns-in_default-2-2
 returns-in_default-2-2 g c =
-    let m = g.G.Group.meaning in
-    let S = state_of c.args.self.now in
-    let away : is_home c.args.self.now.phase c.in_ok-kind.kind ≡ false = search rules in
     record {
-      answer = ap (λ (o : Option CeremonyFault). answer_of o (equations_taken (kind_with (kind_field c.args.bytes.now)))) (out_of_phase m S c.args.bytes.now c.in_ok-kind.kind c.args.self.now.kept c.in_ok-kind.ensures (begun c.args.self.now.phase c.in_default.not-Unopened) away);
+      answer = turned_away g.G.Group.meaning (state_of c.args.self.now) c.args.bytes.now c.in_ok-kind.kind c.args.self.now.kept c.in_ok-kind.ensures c.in_default.not-Unopened (search rules);
       after = refl;
       lender = refl;
     }
 
 pub returns-in_default-2-3 : goal.returns-in_default-2-3
 returns-in_default-2-3 g c =
-    let m = g.G.Group.meaning in
-    let S = state_of c.args.self.now in
-    let away : is_home c.args.self.now.phase c.in_ok-kind.kind ≡ false = search rules in
     record {
-      answer = ap (λ (o : Option CeremonyFault). answer_of o (equations_taken (kind_with (kind_field c.args.bytes.now)))) (out_of_phase m S c.args.bytes.now c.in_ok-kind.kind c.args.self.now.kept c.in_ok-kind.ensures (begun c.args.self.now.phase c.in_default.not-Unopened) away);
+      answer = turned_away g.G.Group.meaning (state_of c.args.self.now) c.args.bytes.now c.in_ok-kind.kind c.args.self.now.kept c.in_ok-kind.ensures c.in_default.not-Unopened (search rules);
       after = refl;
       lender = refl;
     }
 
 pub returns-in_default-2-4 : goal.returns-in_default-2-4
 returns-in_default-2-4 g c =
-    let m = g.G.Group.meaning in
-    let S = state_of c.args.self.now in
-    let away : is_home c.args.self.now.phase c.in_ok-kind.kind ≡ false = search rules in
     record {
-      answer = ap (λ (o : Option CeremonyFault). answer_of o (equations_taken (kind_with (kind_field c.args.bytes.now)))) (out_of_phase m S c.args.bytes.now c.in_ok-kind.kind c.args.self.now.kept c.in_ok-kind.ensures (begun c.args.self.now.phase c.in_default.not-Unopened) away);
+      answer = turned_away g.G.Group.meaning (state_of c.args.self.now) c.args.bytes.now c.in_ok-kind.kind c.args.self.now.kept c.in_ok-kind.ensures c.in_default.not-Unopened (search rules);
       after = refl;
       lender = refl;
     }
 
 pub returns-in_default-2-5 : goal.returns-in_default-2-5
 returns-in_default-2-5 g c =
-    let m = g.G.Group.meaning in
-    let S = state_of c.args.self.now in
-    let away : is_home c.args.self.now.phase c.in_ok-kind.kind ≡ false = search rules in
     record {
-      answer = ap (λ (o : Option CeremonyFault). answer_of o (equations_taken (kind_with (kind_field c.args.bytes.now)))) (out_of_phase m S c.args.bytes.now c.in_ok-kind.kind c.args.self.now.kept c.in_ok-kind.ensures (begun c.args.self.now.phase c.in_default.not-Unopened) away);
+      answer = turned_away g.G.Group.meaning (state_of c.args.self.now) c.args.bytes.now c.in_ok-kind.kind c.args.self.now.kept c.in_ok-kind.ensures c.in_default.not-Unopened (search rules);
       after = refl;
       lender = refl;
     }
 
 pub returns-in_default-2-6 : goal.returns-in_default-2-6
 returns-in_default-2-6 g c =
-    let m = g.G.Group.meaning in
-    let S = state_of c.args.self.now in
-    let away : is_home c.args.self.now.phase c.in_ok-kind.kind ≡ false = search rules in
     record {
-      answer = ap (λ (o : Option CeremonyFault). answer_of o (equations_taken (kind_with (kind_field c.args.bytes.now)))) (out_of_phase m S c.args.bytes.now c.in_ok-kind.kind c.args.self.now.kept c.in_ok-kind.ensures (begun c.args.self.now.phase c.in_default.not-Unopened) away);
+      answer = turned_away g.G.Group.meaning (state_of c.args.self.now) c.args.bytes.now c.in_ok-kind.kind c.args.self.now.kept c.in_ok-kind.ensures c.in_default.not-Unopened (search rules);
       after = refl;
       lender = refl;
     }
 
 pub returns-in_default-2-7 : goal.returns-in_default-2-7
 returns-in_default-2-7 g c =
-    let m = g.G.Group.meaning in
-    let S = state_of c.args.self.now in
-    let away : is_home c.args.self.now.phase c.in_ok-kind.kind ≡ false = search rules in
     record {
-      answer = ap (λ (o : Option CeremonyFault). answer_of o (equations_taken (kind_with (kind_field c.args.bytes.now)))) (out_of_phase m S c.args.bytes.now c.in_ok-kind.kind c.args.self.now.kept c.in_ok-kind.ensures (begun c.args.self.now.phase c.in_default.not-Unopened) away);
+      answer = turned_away g.G.Group.meaning (state_of c.args.self.now) c.args.bytes.now c.in_ok-kind.kind c.args.self.now.kept c.in_ok-kind.ensures c.in_default.not-Unopened (search rules);
       after = refl;
       lender = refl;
     }
