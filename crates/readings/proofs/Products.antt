@@ -3,7 +3,7 @@ use Rattle.std.proofs.Common.{◌≡◌, ℕ, ◌+◌, ◌-◌, ◌<◌, ◌≤�
 use Rattle.group.specs.Meaning.{Meaning}
 use Rattle.protocol.specs.Seats.{those}
 use Rattle.protocol.specs.Board.{product_over}
-use Rattle.readings.proofs.Serving.{those_none, those_more, those_same}
+use Rattle.readings.proofs.LowestSeats.{those_none, those_more, those_same}
 
 -- the product over some seats of f, times z
 unfoldable pub product_with : Meaning → (ℕ → ℕ) → List ℕ → ℕ → ℕ
