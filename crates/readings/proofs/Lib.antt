@@ -1,6 +1,5 @@
 pub mod States
 pub mod Rows
-pub mod Written
 pub mod LowestSeats
 pub mod Shares
 pub mod Revealed

@@ -4,8 +4,7 @@ use Rattle.std.proofs.lemmas.List.Edits.{paste_none}
 use Rattle.group.specs.Code.{code}
 use Rattle.sharing.proofs.CodeWalk.{room}
 use Rattle.protocol.specs.Custodian.{pair_codes}
-use Rattle.board_index.specs.State.{board_of}
-use Rattle.board.specs.State.{state_of}
+use Rattle.board.specs.State.{board}
 use Rattle.readings.specs.Serving.{share_of}
 use Rattle.readings.proofs.Shares.{pairs_all, share_more}
 use Rattle.readings.proofs.reveals.write_shares.Goals as goal
@@ -30,7 +29,7 @@ loop-k-preserved g c =
     let out = c.args.out.now in
     let seats = c.args.seats.now in
     let k = c.loop-k.k in
-    let f = share_of (board_of m (state_of c.args.ceremony.now)) c.args.dealer in
+    let f = share_of (board c.args.ceremony.now) c.args.dealer in
     c.write.ensures
     ∙ ap₂ (λ (d : List ℕ) (p : ℕ). paste d (k * p) (code s (g.G.Group.scalar_of c.share_of.result.left.value) ++ code s (g.G.Group.scalar_of c.share_of.result.right.value)) w) c.loop-k.invariant c.code_width-width.ensures
     ∙ ap (λ (x : ℕ × ℕ). paste (paste out 0 (pair_codes s (map f (take k seats))) (k * w)) (k * w) (code s x.0 ++ code s x.1) w) c.share_of.ensures
@@ -40,7 +39,7 @@ pub returns : goal.returns
 returns g c =
     let m = g.G.Group.meaning in
     let seats = c.args.seats.now in
-    let f = share_of (board_of m (state_of c.args.ceremony.now)) c.args.dealer in
+    let f = share_of (board c.args.ceremony.now) c.args.dealer in
     let end : c.loop-k.k ≡ length seats = omega arith in
     c.loop-k.invariant
     ∙ ap (λ (k : ℕ). paste c.args.out.now 0 (pair_codes m.s (map f (take k seats))) (k * (m.s + m.s))) end
