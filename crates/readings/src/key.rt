@@ -37,13 +37,13 @@ fn key_part<G: Group>(ceremony: &Ceremony<'_, G>, dealer: u8) -> G::Element
 pub fn key_of<G: Group>(ceremony: &Ceremony<'_, G>) -> G::Element
     ensures { G.number_of result ≡ key G.meaning (board ceremony.now) }
 {
-    let mut product = G::unit();
-    for i in (1..ceremony.n() + 1).rev() {
-        if ceremony.is_qualified(i) {
-            product = G::product(key_part(ceremony, i), product);
-        }
-    }
-    product
+    (1..ceremony.n() + 1)
+        .rev()
+        .filter(|i| ceremony.is_qualified(*i))
+        .fold(
+            G::unit(),
+            |product, i| G::product(key_part(ceremony, i), product),
+        )
 }
 
 // Writes the key's code at the start of an output, and tells its length.

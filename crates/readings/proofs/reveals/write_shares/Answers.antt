@@ -1,25 +1,11 @@
-use Rattle.std.proofs.Common.{◌≡◌, ℕ, ◌+◌, ◌*◌, List, [], ◌++◌, map, length, take, sym, ap, ◌∙◌, ap₂, zero-mul, arith}
+use Rattle.std.proofs.Common.{◌≡◌, ℕ, ◌+◌, ◌*◌, List, ◌++◌, map, length, take, sym, ap, ◌∙◌, ap₂, arith}
 use lib.Seq.{paste, take-length}
-use Rattle.std.proofs.lemmas.List.Edits.{paste_none}
 use Rattle.group.specs.Code.{code}
-use Rattle.sharing.proofs.CodeWalk.{room}
 use Rattle.protocol.specs.Custodian.{pair_codes}
 use Rattle.board.specs.State.{board}
 use Rattle.readings.specs.Serving.{share_of}
 use Rattle.readings.proofs.Shares.{pairs_all, share_more}
 use Rattle.readings.proofs.reveals.write_shares.Goals as goal
-
-pub write-requires : goal.write-requires
-write-requires g c =
-    let w = g.G.Group.meaning.s + g.G.Group.meaning.s in
-    rw c.code_width-width.ensures (omega (arith, room c.loop-k.k (length c.args.seats.now) w c.loop-k-test.true))
-
-pub loop-k-init : goal.loop-k-init
-loop-k-init g c =
-    let w = g.G.Group.meaning.s + g.G.Group.meaning.s in
-    let out = c.args.out.now in
-    let none = pair_codes g.G.Group.meaning.s [] in
-    paste_none out 0 none ∙ ap (paste out 0 none) (sym (zero-mul w))
 
 pub loop-k-preserved : goal.loop-k-preserved
 loop-k-preserved g c =
