@@ -35,20 +35,18 @@ module _ (w : ℕ) (f : ℕ → ℕ × ℕ) (seats : List ℕ) where
       let count : length (map f (take k seats)) ≡ k = length-map (take k seats) f ∙ length-take-le k seats h in
       pairs_length w (map f (take k seats)) ∙ ap (λ (n : ℕ). 2 * n * w) count ∙ omega arith
 
-  pub pairs_all : length (pair_codes w (map f seats)) ≡ length seats * (w + w)
-  pairs_all = pairs_length w (map f seats) ∙ ap (λ (n : ℕ). 2 * n * w) (length-map seats f) ∙ omega arith
-
   -- one share more, behind those before it
   pub share_more : (out : List ℕ) (k : ℕ) → k < length seats
-      → paste (paste out 0 (front k) (k * (w + w))) (k * (w + w)) (pair_code w (f (get_or seats k 0))) (w + w) ≡ paste out 0 (front (k + 1)) ((k + 1) * (w + w))
+      → paste (written_in out (front k)) (k * (w + w)) (pair_code w (f (get_or seats k 0))) (w + w) ≡ written_in out (front (k + 1))
   share_more out k h =
       let x = f (get_or seats k 0) in
       let one : length (pair_code w x) ≡ w + w = length-append (code w x.0) (code w x.1) ∙ ap₂ ◌+◌ (code_length w x.0) (code_length w x.1) in
-      let wide : k * (w + w) + (w + w) ≡ (k + 1) * (w + w) = omega arith in
-      let place : k * (w + w) ≡ 0 + k * (w + w) = omega arith in
-      ap (λ (p : ℕ). paste (paste out 0 (front k) (k * (w + w))) p (pair_code w x) (w + w)) place
-      ∙ paste-paste out 0 (front k) (pair_code w x) (k * (w + w)) (w + w) (sym (front_length k (omega arith))) (sym one) (omega arith)
-      ∙ ap₂ (paste out 0) (sym (ap (pair_codes w) (map_more f seats k 0 h) ∙ pairs_push w (map f (take k seats)) x)) wide
+      let place : k * (w + w) ≡ 0 + length (front k) = omega (arith, front_length k (omega arith)) in
+      let next : front k ++ pair_code w x ≡ front (k + 1) = sym (ap (pair_codes w) (map_more f seats k 0 h) ∙ pairs_push w (map f (take k seats)) x) in
+      let wide : length (front k) + (w + w) ≡ length (front (k + 1)) = omega (arith, ap length next, length-append (front k) (pair_code w x)) in
+      ap (λ (p : ℕ). paste (written_in out (front k)) p (pair_code w x) (w + w)) place
+      ∙ paste-paste out 0 (front k) (pair_code w x) (length (front k)) (w + w) refl (sym one) (omega arith)
+      ∙ ap₂ (paste out 0) next wide
 
 -- where the codes of the shares of some seats stand, their entries are read back, and no code is refused
 module _ (m : Meaning) (laws : Lawful m) (f : ℕ → ℕ × ℕ) (below : (j : ℕ) → Share m.q (f j)) (bytes : List ℕ) where
