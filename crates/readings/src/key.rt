@@ -18,13 +18,11 @@ use protocol::phase::Phase;
 fn first_of<G: Group>(ceremony: &Ceremony<'_, G>, dealer: u8) -> G::Element
     ensures { G.number_of result ≡ first_or G.meaning.unit (exposure_of (board ceremony.now) dealer) }
 {
-    match ceremony.first_exposed(dealer) {
-        Some(first) => first,
-        None => G::unit(),
-    }
+    ceremony.first_exposed(dealer).unwrap_or(G::unit())
 }
 
 // A dealer's factor of the key: A_0, or g^z where the dealer is contested.
+#[tactic(auto, unfolding(protocol::specs::Board::key_part))]
 fn key_part<G: Group>(ceremony: &Ceremony<'_, G>, dealer: u8) -> G::Element
     ensures { G.number_of result ≡ key_part G.meaning (board ceremony.now) dealer }
 {
@@ -39,16 +37,17 @@ fn key_part<G: Group>(ceremony: &Ceremony<'_, G>, dealer: u8) -> G::Element
 pub fn key_of<G: Group>(ceremony: &Ceremony<'_, G>) -> G::Element
     ensures { G.number_of result ≡ key G.meaning (board ceremony.now) }
 {
-    let mut product = G::unit();
-    for i in (1..ceremony.n() + 1).rev() {
-        if ceremony.is_qualified(i) {
-            product = G::product(key_part(ceremony, i), product);
-        }
-    }
-    product
+    (1..ceremony.n() + 1)
+        .rev()
+        .filter(|i| ceremony.is_qualified(*i))
+        .fold(
+            G::unit(),
+            |product, i| G::product(key_part(ceremony, i), product),
+        )
 }
 
 // Writes the key's code at the start of an output, and tells its length.
+#[tactic(auto, unfolding(protocol::specs::Readings::key_fault, protocol::specs::Refusals::first_fault))]
 pub fn write_key<G: Group>(
     ceremony: &Ceremony<'_, G>,
     out: &mut [u8],
@@ -56,9 +55,9 @@ pub fn write_key<G: Group>(
     ensures answer { result ≡ answer_of (key_fault G.meaning (board ceremony.now) (length out.old)) G.meaning.w }
     ensures output { out.new ≡ after_key G.meaning (board ceremony.now) out.old }
 {
-    let Phase::Finished = ceremony.phase() else {
+    if ceremony.phase() != Phase::Finished {
         return Err(CeremonyFault::OutOfPhase { place: 0 });
-    };
+    }
     let width = G::width();
     if out.len() < width {
         return Err(CeremonyFault::SmallOutput);

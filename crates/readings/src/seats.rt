@@ -18,13 +18,14 @@ use protocol::state::SeatState;
 fn are_answers_open<G: Group>(ceremony: &Ceremony<'_, G>) -> bool
     ensures { result ≡ nat_lt (starts (board ceremony.now).taken) 4 }
 {
-    match ceremony.phase() {
-        Phase::Unopened | Phase::Dealing | Phase::Complaining | Phase::Answering => true,
-        _ => false,
-    }
+    matches!(
+        ceremony.phase(),
+        Phase::Unopened | Phase::Dealing | Phase::Complaining | Phase::Answering
+    )
 }
 
 // The state of a seat; absent where there is no such seat.
+#[tactic(auto, unfolding(protocol::specs::Readings::state_of))]
 pub fn state_of<G: Group>(ceremony: &Ceremony<'_, G>, seat: u8) -> SeatState
     ensures { result ≡ seat_state G.meaning (board ceremony.now) seat }
 {
@@ -54,6 +55,7 @@ fn row_of<G: Group>(ceremony: &Ceremony<'_, G>, seat: u8) -> SeatRow
 }
 
 // Writes the rows of all seats, that of seat 1 first. Rows behind them stay.
+#[tactic(auto, unfolding(protocol::specs::Readings::seat_list_fault, protocol::specs::Refusals::first_fault))]
 pub fn seat_list<G: Group>(
     ceremony: &Ceremony<'_, G>,
     rows: &mut [SeatRow],
@@ -61,13 +63,14 @@ pub fn seat_list<G: Group>(
     ensures answer { result ≡ answer_of (seat_list_fault G.meaning (board ceremony.now) (length rows.old)) tt }
     ensures rows { rows.new ≡ after_seat_list G.meaning (board ceremony.now) rows.old }
 {
-    if let Phase::Unopened = ceremony.phase() {
+    if ceremony.phase() == Phase::Unopened {
         return Err(CeremonyFault::OutOfPhase { place: 0 });
     }
     let n = ceremony.n();
     if rows.len() < n as usize {
         return Err(CeremonyFault::SmallOutput);
     }
+    // By index: the lent rows are one slice, and the row k is that of seat k + 1.
     for k in 0..n {
         rows[k as usize] = row_of(ceremony, k + 1);
     }

@@ -14,6 +14,7 @@ pub fn word(state: SeatState) -> &'static [u8]
 }
 
 // Writes the word of a state at the start of an output, and tells its length.
+#[tactic(auto, unfolding(protocol::specs::Readings::word_fault))]
 pub fn write_word(state: SeatState, out: &mut [u8]) -> Result<usize, CeremonyFault>
     ensures answer { result ≡ answer_of (word_fault state (length out.old)) (length (word_of state)) }
     ensures output { out.new ≡ after_word state out.old }
