@@ -25,9 +25,9 @@ returns-in_default g c =
     ne_eqb _ 0 (λ none. begun c.args.self.now.phase c.in_default.not-Unopened (ap phase_number c.args.self.now.kept.phase ∙ none)) in
     search rules
 
-pub returns-then-read_code-group_number : goal.returns-then-read_code-group_number
+pub returns-then-read_code-NUMBER : goal.returns-then-read_code-NUMBER
 unfolding first_fault opening_fault
-returns-then-read_code-group_number g c = search rules
+returns-then-read_code-NUMBER g c = search rules
 
 pub returns-then-n-lt1 : goal.returns-then-n-lt1
 unfolding first_fault opening_fault
