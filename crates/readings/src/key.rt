@@ -59,7 +59,7 @@ pub fn write_key<G: Group>(
     let Phase::Finished = ceremony.phase() else {
         return Err(CeremonyFault::OutOfPhase { place: 0 });
     };
-    let width = G::width();
+    let width = G::W;
     if out.len() < width {
         return Err(CeremonyFault::SmallOutput);
     }

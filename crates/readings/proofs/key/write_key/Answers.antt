@@ -26,7 +26,7 @@ returns-then-out-width g c =
     let b = board_of m (state_of c.args.ceremony.now) in
     let out = c.args.out.now in
     let fault = key_fault m b (length out) in
-    let w : c.width-width.result ≡ m.w = c.width-width.ensures in
+    let w : c.W-width.result ≡ m.w = c.W-width.ensures ∙ g.met.G.Group.width_is in
     let small : length out < m.w = omega (arith, c.if-out-width.true) in
     let e = key_small m b (length out) (sym c.phase.ensures ∙ c.in-Finished.is) small in
     record { answer = refuses fault m.w SmallOutput e; output = keeps fault (written_in out (key_code m b)) out SmallOutput e }
@@ -37,11 +37,11 @@ returns g c =
     let b = board_of m (state_of c.args.ceremony.now) in
     let out = c.args.out.now in
     let fault = key_fault m b (length out) in
-    let w : c.width-width.result ≡ m.w = c.width-width.ensures in
+    let w : c.W-width.result ≡ m.w = c.W-width.ensures ∙ g.met.G.Group.width_is in
     let enough : m.w ≤ length out = omega (arith, c.if-out-width.false) in
     let e = key_taken m b (length out) (sym c.phase.ensures ∙ c.in-Finished.is) enough in
     record {
-      answer = answers fault c.width-width.result m.w w e;
+      answer = answers fault c.W-width.result m.w w e;
       output =
           c.write_element.ensures
           ∙ ap₂ (λ (n k : ℕ). paste out 0 (code m.w n) k) c.key_of.ensures (sym (code_length m.w (key m b)))
