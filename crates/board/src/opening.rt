@@ -20,8 +20,8 @@ pub fn area_needed<G: Group>(n: u8, t: u8) -> usize
     ensures { result ≡ area_needed G.meaning n t }
 {
     let n = n as usize;
-    let elements = 5 + (t as usize + 1) * G::width();
-    let share = 6 + 2 * G::scalar_width();
+    let elements = 5 + (t as usize + 1) * G::W;
+    let share = 6 + 2 * G::S;
     54 + 2 * n * elements + 6 * n * n.saturating_sub(1) + (3 * n * n).saturating_sub(2 * n) * share
 }
 
@@ -57,7 +57,7 @@ impl<'a, G: Group> Ceremony<'a, G> {
         let Phase::Unopened = self.phase else {
             return Err(CeremonyFault::OutOfPhase { place: 2 });
         };
-        if read_code(bytes, 4, 2) != G::group_number() as u32 {
+        if read_code(bytes, 4, 2) != G::NUMBER as u32 {
             return Err(CeremonyFault::Parameter { place: 4 });
         }
         let n = bytes[6];

@@ -35,7 +35,7 @@ impl<'a> Coefficients<'a> {
         ensures { result ≡ where_passed G.meaning self.now.codes.now (self.now.t + 1) seat (Ok tt) }
     {
         let count = self.count();
-        if self.codes.len() != 2 * (count * G::scalar_width()) {
+        if self.codes.len() != 2 * (count * G::S) {
             return Err(DealingFault::Length);
         }
         if seat < 1 || seat > 32 {
@@ -53,8 +53,8 @@ impl<'a> Coefficients<'a> {
         ensures { out.new ≡ paste out.old at (codes_of G.meaning.w (commitments_of G.meaning self.now.codes.now (self.now.t + 1))) ((self.now.t + 1) * G.meaning.w) }
     {
         let count = self.count();
-        let s = G::scalar_width();
-        let w = G::width();
+        let s = G::S;
+        let w = G::W;
         // By index: of a slice written through `chunks_exact_mut` only the length is known.
         for k in 0..count {
             let left = <Scalar<G, G::Scalar> as Linear<G>>::known(self.codes, k * s);
@@ -68,7 +68,7 @@ impl<'a> Coefficients<'a> {
         ensures { Writes (deal_drawn_up G.meaning seat (self.now.t + 1) self.now.codes.now (length out.old)) out.old result out.new }
     {
         self.check::<G>(seat)?;
-        let size = 5 + self.count() * G::width();
+        let size = 5 + self.count() * G::W;
         if out.len() < size {
             return Err(DealingFault::Output);
         }
@@ -85,7 +85,7 @@ impl<'a> Coefficients<'a> {
     {
         self.check::<G>(seat)?;
         let count = self.count();
-        let s = G::scalar_width();
+        let s = G::S;
         if out.len() < 2 * s {
             return Err(DealingFault::Output);
         }

@@ -27,9 +27,9 @@ pub fn length_for<G: Group>(kind: Kind, t: u8) -> usize
     ensures { result ≡ length_of G.meaning t (layout_of kind) }
 {
     match kind {
-        Kind::Deal | Kind::Exposure => 3 + (t as usize + 1) * G::width(),
+        Kind::Deal | Kind::Exposure => 3 + (t as usize + 1) * G::W,
         Kind::Complaint => 4,
-        Kind::Answer | Kind::Objection | Kind::Reveal => 4 + 2 * G::scalar_width(),
+        Kind::Answer | Kind::Objection | Kind::Reveal => 4 + 2 * G::S,
         Kind::Opening | Kind::Close | Kind::Letter | Kind::Sheet => 3,
     }
 }

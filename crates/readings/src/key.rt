@@ -58,7 +58,7 @@ pub fn write_key<G: Group>(
     if ceremony.phase() != Phase::Finished {
         return Err(CeremonyFault::OutOfPhase { place: 0 });
     }
-    let width = G::width();
+    let width = G::W;
     if out.len() < width {
         return Err(CeremonyFault::SmallOutput);
     }

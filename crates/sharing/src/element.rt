@@ -71,7 +71,7 @@ impl<E: Copy + PartialEq, G: Group<Element = E>> Linear<G> for Element<G, E> {
     }
 
     fn code_width() -> usize {
-        G::width()
+        G::W
     }
 
     fn read(codes: &[u8], at: usize) -> Result<Element<G, E>, GroupFault> {
@@ -79,7 +79,7 @@ impl<E: Copy + PartialEq, G: Group<Element = E>> Linear<G> for Element<G, E> {
     }
 
     fn known(codes: &[u8], at: usize) -> Element<G, E> {
-        Element::new(G::known_element(read_code(codes, at, G::width())))
+        Element::new(G::known_element(read_code(codes, at, G::W)))
     }
 
     fn write(self, out: &mut [u8], at: usize) {

@@ -71,7 +71,7 @@ impl<S: Copy, G: Group<Scalar = S>> Linear<G> for Scalar<G, S> {
     }
 
     fn code_width() -> usize {
-        G::scalar_width()
+        G::S
     }
 
     fn read(codes: &[u8], at: usize) -> Result<Scalar<G, S>, GroupFault> {
@@ -79,7 +79,7 @@ impl<S: Copy, G: Group<Scalar = S>> Linear<G> for Scalar<G, S> {
     }
 
     fn known(codes: &[u8], at: usize) -> Scalar<G, S> {
-        Scalar::new(G::reduced(read_code(codes, at, G::scalar_width())))
+        Scalar::new(G::reduced(read_code(codes, at, G::S)))
     }
 
     fn write(self, out: &mut [u8], at: usize) {

@@ -14,7 +14,7 @@ returns-then-out-size g c =
     let bytes = c.args.self.now.codes.now in
     let record' = deal m.w c.args.seat (commitments_of m bytes n) in
     let long = deal_length m.w c.args.seat (commitments_of m bytes n) n (decoded_length _ m.s 0 n) in
-    let wide = ap₂ ◌*◌ c.count.ensures c.width.ensures in
+    let wide = ap₂ ◌*◌ c.count.ensures (c.W.ensures ∙ g.met.G.Group.width_is) in
     refused (no_room m bytes n c.args.seat (sym c.check.ensures ∙ c.in_ok-check.was) (length c.args.out.now) record' (omega (arith, long, wide, c.if-out-size.true))) c.args.out.now
 
 pub returns : goal.returns
@@ -27,8 +27,8 @@ returns g c =
     let record' = deal m.w c.args.seat commitments in
     let many = decoded_length _ m.s 0 n in
     let long = deal_length m.w c.args.seat commitments n many in
-    let wide = ap₂ ◌*◌ c.count.ensures c.width.ensures in
-    let size : 5 + c.count.result * c.width.result ≡ 5 + n * m.w = omega (arith, wide) in
+    let wide = ap₂ ◌*◌ c.count.ensures (c.W.ensures ∙ g.met.G.Group.width_is) in
+    let size : 5 + c.count.result * c.W.result ≡ 5 + n * m.w = omega (arith, wide) in
     let outcome = drawn_up_lem m bytes n c.args.seat (sym c.check.ensures ∙ c.in_ok-check.was) (length out) record' (omega (arith, long, wide, c.if-out-size.false)) in
     let body = codes_of m.w commitments in
     let pasted =
@@ -36,5 +36,5 @@ returns g c =
     ∙ ap (λ (d : List ℕ). paste d 5 body (n * m.w))
     (c.write_code-3.ensures
     ∙ ap (λ (d : List ℕ). paste d 4 (code 1 c.args.seat) 1) (c.write_code-2.ensures ∙ ap (λ (d : List ℕ). paste d 2 (code 2 2) 2) c.write_code.ensures))
-    ∙ deal_pasted out m.w c.args.seat (5 + c.count.result * c.width.result) commitments n (omega arith) many size in
-    written outcome out c.write_commitments.new.out (5 + c.count.result * c.width.result) (size ∙ sym long) (pasted ∙ ap (paste out 0 record') (size ∙ sym long))
+    ∙ deal_pasted out m.w c.args.seat (5 + c.count.result * c.W.result) commitments n (omega arith) many size in
+    written outcome out c.write_commitments.new.out (5 + c.count.result * c.W.result) (size ∙ sym long) (pasted ∙ ap (paste out 0 record') (size ∙ sym long))

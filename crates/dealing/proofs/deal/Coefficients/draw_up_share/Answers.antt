@@ -27,7 +27,7 @@ value_of_known-right-requires g c =
     let n = c.args.self.now.t + 1 in
     let bytes = c.args.self.now.codes.now in
     let passed = sym c.check.ensures ∙ c.in_ok-check.was in
-    let place : 0 + n * m.s ≡ n * c.scalar_width-s.result = zero-add (n * m.s) ∙ ap (λ (w : ℕ). n * w) (sym c.scalar_width-s.ensures) in
+    let place : 0 + n * m.s ≡ n * c.S-s.result = zero-add (n * m.s) ∙ ap (λ (w : ℕ). n * w) (sym (c.S-s.ensures ∙ g.met.G.Group.scalar_width_is)) in
     let left : 2 * n - n ≡ n = omega arith in
     rw c.count-count.ensures record {
       within = omega (arith, passed_length m bytes n c.args.seat passed, place, zero-add (n * m.s));
@@ -44,7 +44,7 @@ returns-then-out-s g c =
     let b = code m.s share.1 in
     let long = length-append a b in
     let passed = sym c.check.ensures ∙ c.in_ok-check.was in
-    refused (no_room m bytes n c.args.seat passed (length c.args.out.now) (a ++ b) (omega (arith, long, code_length m.s share.0, code_length m.s share.1, c.scalar_width-s.ensures, c.if-out-s.true))) c.args.out.now
+    refused (no_room m bytes n c.args.seat passed (length c.args.out.now) (a ++ b) (omega (arith, long, code_length m.s share.0, code_length m.s share.1, c.S-s.ensures ∙ g.met.G.Group.scalar_width_is, c.if-out-s.true))) c.args.out.now
 
 pub returns : goal.returns
 returns g c =
@@ -55,14 +55,14 @@ returns g c =
     let share = share_for m bytes n c.args.seat in
     let a = code m.s share.0 in
     let b = code m.s share.1 in
-    let long : 2 * c.scalar_width-s.result ≡ length (a ++ b) = omega (arith, length-append a b, code_length m.s share.0, code_length m.s share.1, c.scalar_width-s.ensures) in
+    let long : 2 * c.S-s.result ≡ length (a ++ b) = omega (arith, length-append a b, code_length m.s share.0, code_length m.s share.1, c.S-s.ensures ∙ g.met.G.Group.scalar_width_is) in
     let passed = sym c.check.ensures ∙ c.in_ok-check.was in
     let outcome = drawn_up_lem m bytes n c.args.seat passed (length out) (a ++ b) (omega (arith, long, c.if-out-s.false)) in
     let left = c.value_of_known-left.ensures ∙ ap (λ (i : ℕ). value_at (scalar_sum m.q) (scalars_from m bytes 0 i) c.args.seat) c.count-count.ensures in
-    let right = c.value_of_known-right.ensures ∙ ap₂ (λ (i w : ℕ). value_at (scalar_sum m.q) (scalars_from m bytes (i * w) i) c.args.seat) c.count-count.ensures c.scalar_width-s.ensures in
-    let size : m.s + m.s ≡ length (a ++ b) = omega (arith, long, c.scalar_width-s.ensures) in
+    let right = c.value_of_known-right.ensures ∙ ap₂ (λ (i w : ℕ). value_at (scalar_sum m.q) (scalars_from m bytes (i * w) i) c.args.seat) c.count-count.ensures (c.S-s.ensures ∙ g.met.G.Group.scalar_width_is) in
+    let size : m.s + m.s ≡ length (a ++ b) = omega (arith, long, c.S-s.ensures ∙ g.met.G.Group.scalar_width_is) in
     let pasted =
     c.write.ensures
     ∙ ap₂ (λ (x y : ℕ). paste out 0 (code m.s x ++ code m.s y) (m.s + m.s)) left right
     ∙ ap (paste out 0 (a ++ b)) size in
-    written outcome out c.write.new.out (2 * c.scalar_width-s.result) long pasted
+    written outcome out c.write.new.out (2 * c.S-s.result) long pasted

@@ -17,7 +17,7 @@ known-left-requires g c =
     let below : k < n = omega arith in
     let inside = room k n m.s below in
     let none = taken_at (scalar_refused m c.args.self.now.codes.now) m.s k 0 (2 * n) (omega arith) c.requires.taken in
-    rw c.scalar_width-s.ensures record { within = omega (arith, inside, c.requires.given); taken = rw (zero-add (k * m.s)) at none }
+    rw (c.S-s.ensures ∙ g.met.G.Group.scalar_width_is) record { within = omega (arith, inside, c.requires.given); taken = rw (zero-add (k * m.s)) at none }
 
 pub overflow_add-k : goal.overflow_add-k
 overflow_add-k g c =
@@ -25,7 +25,7 @@ overflow_add-k g c =
     let n = c.args.self.now.t + 1 in
     let below : c.loop-k.k < n = omega arith in
     let inside = room c.loop-k.k n m.s below in
-    rw (c.scalar_width-s.ensures, c.count-count.ensures) (omega (arith, inside, c.requires.given))
+    rw (c.S-s.ensures ∙ g.met.G.Group.scalar_width_is, c.count-count.ensures) (omega (arith, inside, c.requires.given))
 
 pub known-right-requires : goal.known-right-requires
 known-right-requires g c =
@@ -36,21 +36,21 @@ known-right-requires g c =
     let inside = room k n m.s below in
     let place : 0 + (k + n) * m.s ≡ k * m.s + n * m.s = zero-add ((k + n) * m.s) ∙ add-mul k n m.s in
     let none = taken_at (scalar_refused m c.args.self.now.codes.now) m.s (k + n) 0 (2 * n) (omega arith) c.requires.taken in
-    rw (c.scalar_width-s.ensures, c.count-count.ensures) record { within = omega (arith, inside, c.requires.given); taken = rw place at none }
+    rw (c.S-s.ensures ∙ g.met.G.Group.scalar_width_is, c.count-count.ensures) record { within = omega (arith, inside, c.requires.given); taken = rw place at none }
 
 pub overflow_add-at : goal.overflow_add-at
 overflow_add-at g c =
     let m = g.G.Group.meaning in
     let below : c.loop-k.k < c.args.self.now.t + 1 = omega arith in
     let inside = room c.loop-k.k (c.args.self.now.t + 1) m.w below in
-    rw c.width-w.ensures (omega (arith, inside, c.requires.room))
+    rw (c.W-w.ensures ∙ g.met.G.Group.width_is) (omega (arith, inside, c.requires.room))
 
 pub write_element-requires : goal.write_element-requires
 write_element-requires g c =
     let m = g.G.Group.meaning in
     let below : c.loop-k.k < c.args.self.now.t + 1 = omega arith in
     let inside = room c.loop-k.k (c.args.self.now.t + 1) m.w below in
-    rw c.width-w.ensures (omega (arith, inside, c.requires.room))
+    rw (c.W-w.ensures ∙ g.met.G.Group.width_is) (omega (arith, inside, c.requires.room))
 
 pub loop-k-init : goal.loop-k-init
 loop-k-init g c =
@@ -65,8 +65,8 @@ loop-k-preserved g c =
     let n = c.args.self.now.t + 1 in
     let at = c.args.at in
     let bytes = c.args.self.now.codes.now in
-    let s = c.scalar_width-s.ensures in
-    let w = c.width-w.ensures in
+    let s = c.S-s.ensures ∙ g.met.G.Group.scalar_width_is in
+    let w = c.W-w.ensures ∙ g.met.G.Group.width_is in
     let committed : ℕ → ℕ = λ place. commitment m (code_at bytes m.s place, code_at bytes m.s (place + n * m.s)) in
     let left = c.known-left.ensures ∙ ap (λ (x : ℕ). code_at bytes m.s (k * x)) s in
     let right = c.known-right.ensures ∙ ap₂ (λ (x i : ℕ). code_at bytes m.s (k * x + i * x)) s c.count-count.ensures in
