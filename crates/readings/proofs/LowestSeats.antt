@@ -4,7 +4,7 @@ use Rattle.std.proofs.Math.Seq.{take-nil}
 use Rattle.std.proofs.lemmas.List.{append-nil, take-append-le, take_all}
 use Rattle.protocol.specs.Seats.{those}
 
-pub those_none : (P : ℕ → Bool) → those (1 - 1) P ≡ []
+those_none : (P : ℕ → Bool) → those (1 - 1) P ≡ []
 unfolding those
 those_none P = refl
 
@@ -15,10 +15,10 @@ those_next P j h =
     let same : suc (j - 1) ≡ j = omega arith in
     ap (λ (n : ℕ). those n P) next ∙ ap (λ (i : ℕ). those (j - 1) P ++ cond (P i) (i ∷ []) []) same
 
-pub those_more : (P : ℕ → Bool) (j : ℕ) → 1 ≤ j → P j ≡ true → those (j + 1 - 1) P ≡ those (j - 1) P ++ j ∷ []
+those_more : (P : ℕ → Bool) (j : ℕ) → 1 ≤ j → P j ≡ true → those (j + 1 - 1) P ≡ those (j - 1) P ++ j ∷ []
 those_more P j h p = those_next P j h ∙ ap (λ (b : Bool). those (j - 1) P ++ cond b (j ∷ []) []) p
 
-pub those_same : (P : ℕ → Bool) (j : ℕ) → 1 ≤ j → P j ≡ false → those (j + 1 - 1) P ≡ those (j - 1) P
+those_same : (P : ℕ → Bool) (j : ℕ) → 1 ≤ j → P j ≡ false → those (j + 1 - 1) P ≡ those (j - 1) P
 those_same P j h p = those_next P j h ∙ ap (λ (b : Bool). those (j - 1) P ++ cond b (j ∷ []) []) p ∙ append-nil (those (j - 1) P)
 
 -- the k lowest, where one seat more is tried: it is one of them, or they are k already

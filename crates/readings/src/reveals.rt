@@ -20,7 +20,7 @@ fn find_serving<G: Group>(ceremony: &Ceremony<'_, G>, dealer: u8) -> ServingSeat
 {
     let t = ceremony.t() as usize;
     let mut serving = ServingSeats::new();
-    // A test in the loop: a `for` over filter and take, with a closure, meets a fault of the checker here.
+    // A test inside: the checker cannot state its part for a `for` over filter and take here.
     for j in 1..ceremony.n() + 1 {
         if serving.len() <= t && ceremony.has(Kind::Reveal, j, dealer) {
             serving.push(j);

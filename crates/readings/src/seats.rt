@@ -70,7 +70,7 @@ pub fn seat_list<G: Group>(
     if rows.len() < n as usize {
         return Err(CeremonyFault::SmallOutput);
     }
-    // By index: the lent rows are one slice, and the row k is that of seat k + 1.
+    // By index, as rows in a lent slice are written here; the row k is that of seat k + 1.
     for k in 0..n {
         rows[k as usize] = row_of(ceremony, k + 1);
     }
