@@ -133,6 +133,7 @@ impl<'a, G: Group> Ceremony<'a, G> {
     }
 
     // Whether a dealer is qualified, by the records taken so far.
+    #[tactic(auto, unfolding(protocol::specs::Board::qualified))]
     pub fn is_qualified(&self, dealer: u8) -> bool
         ensures { result ≡ qualified G.meaning (board self.now) dealer }
     {
@@ -160,6 +161,7 @@ impl<'a, G: Group> Ceremony<'a, G> {
     }
 
     // Whether a dealer is contested: objected to or, once the objections are closed, without an Exposure.
+    #[tactic(auto, unfolding(protocol::specs::Board::contested), using(crate::proofs::SeatLoops::some_count))]
     pub fn is_contested(&self, dealer: u8) -> bool
         ensures { result ≡ contested G.meaning (board self.now) dealer }
     {
