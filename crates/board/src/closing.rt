@@ -1,5 +1,5 @@
 // Closes: the end of a phase.
-ghost use Rattle.std.specs.Prelude.{◌≡◌, ℕ, ◌≤◌, true, List, None};
+ghost use Rattle.std.specs.Prelude.{◌≡◌, ℕ, ◌≤◌, true, List, None, Ok};
 ghost use Rattle.protocol.specs.declared.kind.Kind.TheVariants.{Close};
 ghost use Rattle.protocol.specs.Board.{phase_of, phase_number};
 ghost use Rattle.protocol.specs.Refusals.{posting_fault, posted};
@@ -52,22 +52,17 @@ impl<'a, G: Group> Ceremony<'a, G> {
         }
     }
 
-    // Takes a Close, unless something was said against it.
-    pub(crate) fn take_close(
-        &mut self,
-        checked: Result<(), CeremonyFault>,
-        bytes: &[u8],
-    ) -> Result<u8, CeremonyFault>
+    // Takes a Close against which nothing is said, and tells how many equations were tested for it: none.
+    pub(crate) fn take_close(&mut self, bytes: &[u8]) -> u8
         requires kind { OfKind G.meaning self.old.t bytes.now Close }
-        requires checked { fault_of checked ≡ posting_fault G.meaning (board self.old) bytes.now }
-        ensures answer { result ≡ posting_answer G.meaning (board self.old) bytes.now }
-        ensures after { AfterPosting G.meaning (state_of self.old) bytes.now result (state_of self.new) }
+        requires taken { posting_fault G.meaning (board self.old) bytes.now ≡ None }
+        ensures answer { Ok result ≡ posting_answer G.meaning (board self.old) bytes.now }
+        ensures after { AfterPosting G.meaning (state_of self.old) bytes.now (Ok result) (state_of self.new) }
         ensures lender { self.new.area.ghost_name ≡ self.old.area.ghost_name }
     {
-        checked?;
         let next = self.next_phase();
         self.used = append(self.area, self.used, bytes);
         self.phase = next;
-        Ok(0)
+        0
     }
 }

@@ -1,5 +1,5 @@
 // Taking records: what a record does is decided by the phase and its kind together.
-ghost use Rattle.std.specs.Prelude.{◌≡◌, ◌+◌, ◌*◌, ◌≤◌, true, length, Some, None};
+ghost use Rattle.std.specs.Prelude.{◌≡◌, ◌+◌, ◌*◌, ◌≤◌, true, length, Some, None, Ok};
 ghost use Rattle.std.proofs.Math.Seq.{paste};
 ghost use Rattle.protocol.specs.declared.kind.Kind.TheVariants.{Answer};
 ghost use Rattle.protocol.specs.Record.{kind_number, kind_field, read_record};
@@ -76,24 +76,18 @@ impl<'a, G: Group> Ceremony<'a, G> {
         }
     }
 
-    // Takes a record of a kind 2 to 7, unless something was said against it.
-    fn take(
-        &mut self,
-        checked: Result<(), CeremonyFault>,
-        kind: Kind,
-        bytes: &[u8],
-    ) -> Result<u8, CeremonyFault>
+    // Takes a record of a kind 2 to 7 against which nothing is said, and tells how many equations were tested for it.
+    fn take(&mut self, kind: Kind, bytes: &[u8]) -> u8
         requires kind { (OfKind G.meaning self.old.t bytes.now kind) × (is_indexed kind ≡ true) }
-        requires checked { fault_of checked ≡ posting_fault G.meaning (board self.old) bytes.now }
-        ensures answer { result ≡ posting_answer G.meaning (board self.old) bytes.now }
-        ensures after { AfterPosting G.meaning (state_of self.old) bytes.now result (state_of self.new) }
+        requires taken { posting_fault G.meaning (board self.old) bytes.now ≡ None }
+        ensures answer { Ok result ≡ posting_answer G.meaning (board self.old) bytes.now }
+        ensures after { AfterPosting G.meaning (state_of self.old) bytes.now (Ok result) (state_of self.new) }
         ensures lender { self.new.area.ghost_name ≡ self.old.area.ghost_name }
     {
-        checked?;
         let second = second_of::<G>(kind, bytes, self.t);
         let truth = self.is_true_answer(kind, bytes);
         self.file(bytes, kind, bytes[4], second, truth);
-        Ok(equations_for(kind))
+        equations_for(kind)
     }
 
     // Posts a record, and tells how many equations were tested for it.
@@ -108,28 +102,28 @@ impl<'a, G: Group> Ceremony<'a, G> {
         let kind = read_kind::<G>(bytes, self.t)?;
         match (self.phase, kind) {
             (Phase::Dealing, Kind::Deal) => {
-                let checked = self.check_deal(bytes);
-                self.take(checked, kind, bytes)
+                self.check_deal(bytes)?;
+                Ok(self.take(kind, bytes))
             }
             (Phase::Complaining, Kind::Complaint) => {
-                let checked = self.check_complaint(bytes);
-                self.take(checked, kind, bytes)
+                self.check_complaint(bytes)?;
+                Ok(self.take(kind, bytes))
             }
             (Phase::Answering, Kind::Answer) => {
-                let checked = self.check_answer(bytes);
-                self.take(checked, kind, bytes)
+                self.check_answer(bytes)?;
+                Ok(self.take(kind, bytes))
             }
             (Phase::Exposing, Kind::Exposure) => {
-                let checked = self.check_exposure(bytes);
-                self.take(checked, kind, bytes)
+                self.check_exposure(bytes)?;
+                Ok(self.take(kind, bytes))
             }
             (Phase::Objecting, Kind::Objection) => {
-                let checked = self.check_objection(bytes);
-                self.take(checked, kind, bytes)
+                self.check_objection(bytes)?;
+                Ok(self.take(kind, bytes))
             }
             (Phase::Revealing, Kind::Reveal) => {
-                let checked = self.check_reveal(bytes);
-                self.take(checked, kind, bytes)
+                self.check_reveal(bytes)?;
+                Ok(self.take(kind, bytes))
             }
             (
                 Phase::Dealing
@@ -140,8 +134,8 @@ impl<'a, G: Group> Ceremony<'a, G> {
                 | Phase::Revealing,
                 Kind::Close,
             ) => {
-                let checked = self.check_close(bytes);
-                self.take_close(checked, bytes)
+                self.check_close(bytes)?;
+                Ok(self.take_close(bytes))
             }
             (_, _) => Err(CeremonyFault::OutOfPhase { place: 2 }),
         }
