@@ -1,10 +1,10 @@
 // What is said against a record of a kind in its phase, behind its frame, kind and length.
 ghost use Rattle.std.specs.Prelude.{◌≡◌, ◌+◌, ◌*◌, ◌<◌, ◌≤◌, length, None};
 ghost use Rattle.group.specs.Code.{code_at};
-ghost use Rattle.sharing.specs.Codes.{decoded_from, refused_from, element_refused, scalar_refused};
-ghost use Rattle.protocol.specs.declared.kind.Kind.TheVariants.{Deal, Complaint, Answer, Exposure, Objection, Reveal, Close};
+ghost use Rattle.sharing.specs.Codes.{decoded_from, refused_from, scalar_refused};
+ghost use Rattle.protocol.specs.declared.kind.Kind.TheVariants.{Deal, Complaint, Answer, Exposure, Objection, Reveal};
 ghost use Rattle.protocol.specs.declared.phase.Phase.TheVariants.{Dealing, Complaining, Answering, Exposing, Objecting, Revealing};
-ghost use Rattle.protocol.specs.Board.{share_in, passes1, passes2};
+ghost use Rattle.protocol.specs.Board.{share_in};
 ghost use Rattle.protocol.specs.Refusals.{posting_fault};
 ghost use Rattle.board.specs.State.{board};
 ghost use Rattle.frames.specs.Reading.{OfKind};

@@ -1,5 +1,5 @@
 // Closes: the end of a phase.
-ghost use Rattle.std.specs.Prelude.{◌≡◌, ℕ, ◌≤◌, true, List, None, Ok};
+ghost use Rattle.std.specs.Prelude.{◌≡◌, ℕ, ◌≤◌, List, None, Ok};
 ghost use Rattle.protocol.specs.declared.kind.Kind.TheVariants.{Close};
 ghost use Rattle.protocol.specs.Board.{phase_of, phase_number};
 ghost use Rattle.protocol.specs.Refusals.{posting_fault, posted};

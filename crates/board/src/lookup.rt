@@ -1,5 +1,5 @@
 // What the taken records say and decide, found by the index.
-ghost use Rattle.std.specs.Prelude.{◌≡◌, ℕ, ◌+◌, ◌*◌, ◌≤◌, true, not, ◌||◌, length, nat_le, nat_lt, ◌==◌};
+ghost use Rattle.std.specs.Prelude.{◌≡◌, ◌+◌, true, not, ◌||◌, nat_le, nat_lt, ◌==◌};
 ghost use Rattle.group.specs.Monoid.{power};
 ghost use Rattle.group.specs.Meaning.{products};
 ghost use Rattle.protocol.specs.declared.kind.Kind.TheVariants.{Deal, Exposure};
@@ -7,7 +7,7 @@ ghost use Rattle.sharing.specs.Value.{value_at};
 ghost use Rattle.protocol.specs.Seats.{count, every, holds};
 ghost use Rattle.protocol.specs.Record.{layout_of, Elements, SecondAndShare};
 ghost use Rattle.protocol.specs.Board.{entry, has as is_taken, passes1, passes2, complained, answered, qualified, contested, revealed, all_revealed, starts, phase_of, exposure_of};
-ghost use Rattle.board_index.specs.State.{is_indexed, look};
+ghost use Rattle.board_index.specs.State.{is_indexed};
 ghost use Rattle.board.specs.State.{board};
 ghost use Rattle.board.specs.Posting.{ValueIn, ShareIn, FirstIn};
 

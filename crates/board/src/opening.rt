@@ -1,5 +1,5 @@
 // Making a ceremony and opening it.
-ghost use Rattle.std.specs.Prelude.{◌≡◌, ◌≤◌, List, length, None};
+ghost use Rattle.std.specs.Prelude.{◌≡◌, length};
 ghost use Rattle.protocol.specs.Board.{empty};
 ghost use Rattle.protocol.specs.Refusals.{area_needed, opening_fault};
 ghost use Rattle.board.specs.State.{board, state_of};

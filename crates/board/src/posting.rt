@@ -1,15 +1,15 @@
 // Taking records: what a record does is decided by the phase and its kind together.
-ghost use Rattle.std.specs.Prelude.{◌≡◌, ◌+◌, ◌*◌, ◌≤◌, true, length, Some, None, Ok};
+ghost use Rattle.std.specs.Prelude.{◌≡◌, ◌+◌, ◌≤◌, true, length, Some, None, Ok};
 ghost use Rattle.std.proofs.Math.Seq.{paste};
 ghost use Rattle.protocol.specs.declared.kind.Kind.TheVariants.{Answer};
-ghost use Rattle.protocol.specs.Record.{kind_number, kind_field, read_record};
+ghost use Rattle.protocol.specs.Record.{read_record};
 ghost use Rattle.protocol.specs.Board.{share_in, passes1};
-ghost use Rattle.protocol.specs.Refusals.{posting_fault, posted, equations_taken};
-ghost use Rattle.board_index.specs.State.{is_indexed, closed_at, filed_at};
+ghost use Rattle.protocol.specs.Refusals.{posting_fault, equations_taken};
+ghost use Rattle.board_index.specs.State.{is_indexed, filed_at};
 ghost use Rattle.board_index.specs.Deeds.{Files};
 ghost use Rattle.board.specs.State.{board, state_of};
 ghost use Rattle.frames.specs.Reading.{OfKind};
-ghost use Rattle.board.specs.Posting.{fault_of, posting_answer, AfterPosting};
+ghost use Rattle.board.specs.Posting.{posting_answer, AfterPosting};
 
 use crate::ceremony::Ceremony;
 use crate::checks::share_of;

@@ -1,5 +1,5 @@
 // Where each taken record begins, by kind, writer and second seat.
-ghost use Rattle.std.specs.Prelude.{◌≡◌, ℕ, ◌^◌, ◌<◌, ◌≤◌, Bool, true, false, length, replicate, slice_set};
+ghost use Rattle.std.specs.Prelude.{◌≡◌, ◌^◌, ◌<◌, ◌≤◌, true, false, replicate, slice_set};
 ghost use Rattle.board_index.specs.State.{is_indexed, slot, look, truth_at, noted_truths};
 
 use protocol::kind::Kind;

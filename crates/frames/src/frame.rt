@@ -1,6 +1,6 @@
 // Reading the bytes of a record: frame, kind, and length for the kind.
-ghost use Rattle.std.specs.Prelude.{◌≡◌, ◌+◌, ◌*◌, ◌≤◌, true, length};
-ghost use Rattle.protocol.specs.Record.{layout_of, length_of, kind_field};
+ghost use Rattle.std.specs.Prelude.{◌≡◌, ◌+◌, ◌*◌, length};
+ghost use Rattle.protocol.specs.Record.{layout_of, length_of};
 ghost use Rattle.frames.specs.Reading.{is_posted as postable, ReadsFrame, ReadsKind};
 
 use group::codes::read_code;
