@@ -8,7 +8,7 @@ use group::group::Group;
 use protocol::fault::RecordFault;
 use protocol::kind::Kind;
 
-// The number of the kind, where the bytes are one frame.
+// The number of the kind, where the bytes are one frame. A number, since which kinds may stand there is the caller's to test.
 pub fn read_frame(bytes: &[u8]) -> Result<u32, RecordFault>
     ensures { ReadsFrame bytes.now result }
 {

@@ -14,6 +14,7 @@ pub enum Layer {
 
 #[derive(Clone, Copy, Debug, PartialEq, Eq)]
 pub struct Report {
+    // A number, since it is what the table of refusals lists.
     pub number: u8,
     pub layer: Layer,
     pub place: usize,

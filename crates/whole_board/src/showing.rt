@@ -10,7 +10,7 @@ use replay::replay::replay;
 use replay::replayed::Replayed;
 use std::{fmt, io};
 
-// A record's kind and the seats that it names, read off its bytes.
+// A record's kind and the seats that it names. By its bytes, since what is no record of a board is told too.
 #[derive(Clone, Copy)]
 struct Named<'a>(&'a [u8]);
 
