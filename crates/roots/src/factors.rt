@@ -8,7 +8,7 @@ use std::alloc::AllocError;
 use std::marker::PhantomData;
 
 // A number that can be multiplied.
-pub(crate) struct Factor<const Q: u32, C: Candidates<Q>> {
+pub struct Factor<const Q: u32, C: Candidates<Q>> {
     value: u32,
     of: PhantomData<C>,
     ghost ok: { C.factor value ≡ true },
@@ -28,7 +28,7 @@ impl<const Q: u32, C: Candidates<Q>> Clone for Factor<Q, C> {
 impl<const Q: u32, C: Candidates<Q>> Copy for Factor<Q, C> {}
 
 impl<const Q: u32, C: Candidates<Q>> Factor<Q, C> {
-    pub(crate) fn new(value: u32) -> Factor<Q, C>
+    pub fn new(value: u32) -> Factor<Q, C>
         requires { C.factor value ≡ true }
         ensures { result.value ≡ value }
     {
@@ -38,14 +38,14 @@ impl<const Q: u32, C: Candidates<Q>> Factor<Q, C> {
         }
     }
 
-    pub(crate) fn number(self) -> u32
+    pub fn number(self) -> u32
         ensures { result ≡ self.value }
     {
         self.value
     }
 }
 
-pub(crate) struct Factors<const Q: u32, C>(PhantomData<C>);
+pub struct Factors<const Q: u32, C>(PhantomData<C>);
 
 impl<const Q: u32, C: Candidates<Q>> Operation for Factors<Q, C> {
     type Item = Factor<Q, C>;

@@ -2,5 +2,5 @@
 #![tactic(auto)]
 
 pub mod candidates;
-mod factors;
+pub mod factors;
 pub mod roots;
