@@ -73,7 +73,7 @@ impl RecordBytes {
 
 // An Opening with a label of zeros.
 fn opening<G: Group>(n: u8, t: u8) -> RecordBytes {
-    let [low, high] = G::group_number().to_le_bytes();
+    let [low, high] = G::NUMBER.to_le_bytes();
     let mut bytes = [0; 24];
     bytes[..8].copy_from_slice(&[22, 0, 1, 0, low, high, n, t]);
     RecordBytes::copied(&bytes)
@@ -81,12 +81,12 @@ fn opening<G: Group>(n: u8, t: u8) -> RecordBytes {
 
 // A Deal or an Exposure.
 fn elements<G: Group>(kind: u8, writer: u8, codes: (u32, u32)) -> RecordBytes {
-    RecordBytes::coded(kind, &[writer], G::width(), codes)
+    RecordBytes::coded(kind, &[writer], G::W, codes)
 }
 
 // An Answer, an Objection or a Reveal.
 fn share<G: Group>(kind: u8, seats: [u8; 2], share: (u32, u32)) -> RecordBytes {
-    RecordBytes::coded(kind, &seats, G::scalar_width(), share)
+    RecordBytes::coded(kind, &seats, G::S, share)
 }
 
 // The number of g^a·h^b.

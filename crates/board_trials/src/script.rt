@@ -120,7 +120,7 @@ fn check_code<G: Group>(
     let mut out = [0xFF; 4];
     check_refused(rt, write_key(ceremony, &mut out[..1]), 14, 0, 0)?;
     assert_eq!(rt; out, [0xFF; 4]);
-    assert_eq!(rt; write_key(ceremony, &mut out)?, G::width());
+    assert_eq!(rt; write_key(ceremony, &mut out)?, G::W);
     assert_eq!(rt; out, code);
     Ok(())
 }

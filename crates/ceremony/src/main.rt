@@ -95,7 +95,7 @@ fn deal_to_seat<G: Group>(
 
 // The whole dealing: the Deal, then a share for each seat.
 fn deal_in<G: Group>(rt: HostRuntime, dealing: &Dealing) -> io::Result<()> {
-    let number = G::group_number();
+    let number = G::NUMBER;
     let g = G::element_number(G::g());
     let h = G::element_number(G::h());
     println!(rt; "group {number}: g = {g}, h = {h}")?;

@@ -37,25 +37,6 @@ pub trait Group {
 
     ghost below: { (x : Self.Scalar) → scalar_of x < meaning.q };
 
-    // The constants as calls.
-    fn group_number() -> u16
-        ensures { result ≡ meaning.number }
-    {
-        Self::NUMBER
-    }
-
-    fn width() -> usize
-        ensures { result ≡ meaning.w }
-    {
-        Self::W
-    }
-
-    fn scalar_width() -> usize
-        ensures { result ≡ meaning.s }
-    {
-        Self::S
-    }
-
     // Functions and no operators: what each gives is one clause about numbers.
     fn unit() -> Self::Element
         ensures { number_of result ≡ meaning.unit };

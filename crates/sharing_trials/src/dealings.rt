@@ -30,7 +30,7 @@ fn check_share<G: Group>(
     let t = coefficients.t;
     let mut share = [0xAA; 12];
     let size = coefficients.draw_up_share::<G>(seat, &mut share)?;
-    assert_eq!(rt; size, 2 * G::scalar_width());
+    assert_eq!(rt; size, 2 * G::S);
     check_rest(rt, &share, size);
     if size > 12 {
         return Err(Fail::new("too long a share"));
@@ -56,7 +56,7 @@ fn check_share<G: Group>(
 fn check_dealing<G: Group>(rt: &impl Abort, seat: u8, t: u8) -> Result<(), Fail> {
     let codes = scalar_codes::<G, 128>(t.into());
     let count = t as usize + 1;
-    let given = 2 * (count * G::scalar_width());
+    let given = 2 * (count * G::S);
     let mut record = [0xAA; 80];
     if given > 128 {
         return Err(Fail::new("too many coefficients"));
@@ -66,7 +66,7 @@ fn check_dealing<G: Group>(rt: &impl Abort, seat: u8, t: u8) -> Result<(), Fail>
         codes: &codes[..given],
     };
     let size = coefficients.draw_up_deal::<G>(seat, &mut record)?;
-    assert_eq!(rt; size, 5 + count * G::width(), "t = {}", t);
+    assert_eq!(rt; size, 5 + count * G::W, "t = {}", t);
     check_head(rt, &record, size, seat);
     check_rest(rt, &record, size);
     if size < 5 || size > 80 {

@@ -26,7 +26,7 @@ struct Sample {
 impl Sample {
     fn new<G: Group>(t: u8, seed: u32) -> Result<Sample, Fail> {
         let bytes = scalar_codes::<G, 144>(seed);
-        let size = 2 * ((t as usize + 1) * G::scalar_width());
+        let size = 2 * ((t as usize + 1) * G::S);
         if size < 1 || size > 143 {
             return Err(Fail::new("no room"));
         }
@@ -59,7 +59,7 @@ impl Sample {
         if place > 140 {
             return Err(Fail::new("no room"));
         }
-        write_code(&mut self.bytes, place, G::scalar_width(), number);
+        write_code(&mut self.bytes, place, G::S, number);
         Ok(self)
     }
 }
@@ -102,7 +102,7 @@ fn check_code<G: Group>(rt: &impl Abort, q: u32, good: &Sample, place: usize) ->
 
 // A wrong code at each place in turn.
 fn check_codes<G: Group>(rt: &impl Abort, q: u32, good: &Sample) -> Result<(), Fail> {
-    for place in (0..good.size).step_by(G::scalar_width()) {
+    for place in (0..good.size).step_by(G::S) {
         check_code::<G>(rt, q, good, place)?;
     }
     Ok(())
@@ -142,9 +142,9 @@ fn check_refusals<G: Group>(rt: &impl Abort, q: u32, t: u8) -> Result<(), Fail> 
     let good = Sample::new::<G>(t, q)?;
     check_codes::<G>(rt, q, &good)?;
     check_lengths::<G>(rt, q, &good)?;
-    let deal = 5 + (t as usize + 1) * G::width();
+    let deal = 5 + (t as usize + 1) * G::W;
     check_room(rt, deal, |out| good.codes().draw_up_deal::<G>(1, out))?;
-    let share = 2 * G::scalar_width();
+    let share = 2 * G::S;
     check_room(rt, share, |out| good.codes().draw_up_share::<G>(3, out))
 }
 

@@ -22,8 +22,8 @@ fn check_refused<G: Group>(
 }
 
 fn check_lengths<G: Group>(rt: &impl Abort, commitments: &[u8; 64], share: &[u8; 12]) {
-    let w = 4 * G::width();
-    let s = 2 * G::scalar_width();
+    let w = 4 * G::W;
+    let s = 2 * G::S;
     assert!(rt; test_share::<G>(3, &commitments[..w], &share[..s], 32).is_ok());
     for (what, commitments, share) in [
         ("few commitments", &commitments[..w - 1], &share[..s]),
@@ -40,8 +40,8 @@ fn no_candidate(place: usize) -> DealingFault {
 }
 
 fn check_codes<G: Group>(rt: &impl Abort, mut commitments: [u8; 64], mut share: [u8; 12], q: u32) {
-    let w = G::width();
-    let s = G::scalar_width();
+    let w = G::W;
+    let s = G::S;
     write_code(&mut share, s, s, q);
     check_refused::<G>(
         rt,

@@ -49,7 +49,7 @@ fn check_values<G: Group>(rt: &impl Abort, q: u32, count: usize) -> Result<(), F
     requires count { count ≤ 16 }
 {
     let numbers = sample_numbers(count as u32, q);
-    let codes = codes_of(&numbers, G::scalar_width());
+    let codes = codes_of(&numbers, G::S);
     for seat in 1..33 {
         let value = evaluate::<G, Scalar<G, G::Scalar>>(&codes, 0, count, seat)?;
         assert_eq!(rt;

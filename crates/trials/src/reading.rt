@@ -46,7 +46,7 @@ where
     requires callable { E.IsAlwaysCallable expected }
 {
     for n in numbers {
-        let answer = element_read::<G>(&coded(n, G::width()));
+        let answer = element_read::<G>(&coded(n, G::W));
         check_answer(rt, n, answer, expected(n));
     }
 }
@@ -60,7 +60,7 @@ where
     requires ends { IsFinite (I.remaining numbers) }
 {
     for n in numbers {
-        let answer = scalar_read::<G>(&coded(n, G::scalar_width()));
+        let answer = scalar_read::<G>(&coded(n, G::S));
         let expected = if n < q { Ok(n) } else { Err(NO_CANDIDATE) };
         check_answer(rt, n, answer, expected);
     }

@@ -31,20 +31,14 @@ fn check_element<G: Group>(rt: &impl Abort, element: G::Element) {
     let number = G::element_number(element);
     let mut bytes = [0xAA; 8];
     write_element::<G>(element, &mut bytes, PLACE);
-    check_code(rt, &bytes, number, G::width(), element_read::<G>(&bytes));
+    check_code(rt, &bytes, number, G::W, element_read::<G>(&bytes));
 }
 
 fn check_scalar<G: Group>(rt: &impl Abort, scalar: G::Scalar) {
     let number = G::scalar_number(scalar);
     let mut bytes = [0xAA; 8];
     write_scalar::<G>(scalar, &mut bytes, PLACE);
-    check_code(
-        rt,
-        &bytes,
-        number,
-        G::scalar_width(),
-        scalar_read::<G>(&bytes),
-    );
+    check_code(rt, &bytes, number, G::S, scalar_read::<G>(&bytes));
 }
 
 // The first powers of h, from the unit on.

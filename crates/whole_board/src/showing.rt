@@ -44,8 +44,7 @@ impl fmt::Display for Hex<'_> {
 }
 
 // Opens the ceremony with an Opening, and posts any other record; tells how many equations were tested.
-fn give<G: Group>(ceremony: &mut Ceremony<'_, G>, bytes: &[u8]) -> Result<u8, CeremonyFault>
-{
+fn give<G: Group>(ceremony: &mut Ceremony<'_, G>, bytes: &[u8]) -> Result<u8, CeremonyFault> {
     if let [_, _, 1, 0, ..] = bytes {
         ceremony.open(bytes)?;
         return Ok(0);
@@ -58,8 +57,7 @@ fn give_all<G: Group>(
     rt: &impl Print,
     ceremony: &mut Ceremony<'_, G>,
     records: &[&[u8]],
-) -> io::Result<()>
-{
+) -> io::Result<()> {
     for bytes in records {
         let named = Named(bytes);
         match give(ceremony, bytes) {
@@ -100,8 +98,7 @@ fn print_key<G: Group>(rt: &impl Print, ceremony: &Ceremony<'_, G>) -> io::Resul
 
 // Makes a ceremony, gives it the records of a board of five seats, and prints what can be read off it.
 pub(crate) fn show_board<G: Group>(rt: &impl Print, records: &[&[u8]]) -> io::Result<()> {
-    let number = G::group_number();
-    println!(rt; "a board in group {number}")?;
+    println!(rt; "a board in group {}", G::NUMBER)?;
     // Five seats with the threshold 2 need 934 bytes in group 1 and 1094 in group 2.
     let mut area = [0u8; 1094];
     let mut ceremony = Ceremony::<G>::new(&mut area);
