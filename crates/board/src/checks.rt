@@ -70,6 +70,7 @@ impl<'a, G: Group> Ceremony<'a, G> {
     }
 }
 
+// One check for each kind, as the table of refusals has one row for each.
 impl<'a, G: Group> Ceremony<'a, G> {
     pub(crate) fn check_deal(&self, bytes: &[u8]) -> Result<(), CeremonyFault>
         requires kind { OfKind G.meaning self.now.t bytes.now Deal }

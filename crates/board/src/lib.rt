@@ -7,4 +7,3 @@ mod closing;
 pub mod lookup;
 pub mod opening;
 pub mod posting;
-mod seats;

@@ -12,7 +12,6 @@ ghost use Rattle.board.specs.State.{board};
 ghost use Rattle.board.specs.Posting.{ValueIn, ShareIn, FirstIn};
 
 use crate::ceremony::Ceremony;
-use crate::seats::count_seats;
 use group::group::Group;
 use group::powers::power_of;
 use protocol::kind::Kind;
@@ -112,7 +111,9 @@ impl<'a, G: Group> Ceremony<'a, G> {
         requires kind { is_indexed kind ≡ true }
         ensures { result ≡ count (board self.now).n (λ j. is_taken (board self.now).taken kind j dealer) }
     {
-        count_seats(self.n, |j| self.has(kind, j, dealer))
+        (1..self.n + 1)
+            .filter(|j| self.has(kind, *j, dealer))
+            .count() as u8
     }
 
     // Whether a dealer has answered a seat truly, if that seat complained of it.
@@ -150,7 +151,7 @@ impl<'a, G: Group> Ceremony<'a, G> {
     pub fn qualified_count(&self) -> u8
         ensures { result ≡ count (board self.now).n (qualified G.meaning (board self.now)) }
     {
-        count_seats(self.n, |i| self.is_qualified(i))
+        (1..self.n + 1).filter(|i| self.is_qualified(*i)).count() as u8
     }
 
     // Whether the phase of the objections has ended.

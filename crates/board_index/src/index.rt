@@ -7,7 +7,7 @@ use protocol::kind::Kind;
 // A row of a table has the numbers 0 to 32: the seats, and 0 where a kind has no second seat.
 #[derive(Drop)]
 pub struct Index {
-    // 0 where no record is taken: the Opening stands there, and it has no entry.
+    // 0 where no record is taken: the Opening stands there, and it has no entry. An Option would double the table.
     pub places: [u32; 6534],
     // Whether the Answer of a dealer to a complainer is taken and true.
     pub truths: [bool; 1089],

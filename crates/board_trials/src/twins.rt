@@ -130,7 +130,7 @@ fn equations_of(bytes: &[u8]) -> u8 {
     }
 }
 
-// A refused record tells by its reason how many equations were tested: an Objection's up to 2, a Reveal's 1.
+// By numbers, which are what is told. A refused record tells by its reason how many equations were tested: an Objection's up to 2, a Reveal's 1.
 fn check_reason(rt: &impl Abort, report: Report, bytes: &[u8]) {
     match report.number {
         9 => assert!(rt; report.reason == 1 || report.reason == 2),
@@ -146,7 +146,7 @@ fn check_same<G: Group>(
 ) -> Result<(), Fail> {
     assert_eq!(rt; first.n(), second.n());
     assert_eq!(rt; first.t(), second.t());
-    assert_eq!(rt; first.phase().number(), second.phase().number());
+    assert_eq!(rt; first.phase(), second.phase());
     let row = SeatRow {
         state: SeatState::Absent,
         complaints: 77,

@@ -8,6 +8,7 @@ use group::fault::GroupFault;
 use std::fmt;
 
 impl DealingFault {
+    // A number, as the table of refusals has it.
     pub fn number(self) -> u8
         ensures { result ≡ number_of self }
     {
@@ -49,6 +50,7 @@ impl fmt::Display for DealingFault {
     }
 }
 
+// By hand: a derived From has no contract, and `?` needs it.
 impl From<GroupFault> for DealingFault {
     ghost from_gives = { λ e r. r ≡ Code e };
 

@@ -30,6 +30,7 @@ pub fn write_code(out: &mut [u8], at: usize, width: usize, n: u32)
     }
 }
 
+// Elements and scalars are read by two functions of the group; one function here would take them as arguments.
 pub fn read_element<G: Group>(bytes: &[u8], at: usize) -> Result<G::Element, GroupFault>
     requires { at + G.meaning.w ≤ length bytes.now }
     ensures { Reads (element_refusal G.meaning (code_at bytes.now G.meaning.w at) at) G.number_of (code_at bytes.now G.meaning.w at) result }

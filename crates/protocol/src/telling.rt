@@ -10,6 +10,7 @@ use crate::fault::{CeremonyFault, CustodianFault, Equation, RecordFault};
 use crate::report::{Layer, Report};
 use group::fault::GroupFault;
 
+// By hand: a derived From has no contract, and `?` needs it.
 impl From<GroupFault> for RecordFault {
     ghost from_gives = { λ e r. r ≡ Code e };
 

@@ -53,7 +53,7 @@ fn write_shares<G: Group>(ceremony: &Ceremony<'_, G>, dealer: u8, seats: &[u8], 
 pub fn revealed_share<G: Group>(ceremony: &Ceremony<'_, G>, dealer: u8) -> Share<G>
     ensures { (G.scalar_of result.left.value, G.scalar_of result.right.value) ≡ revealed_share G.meaning (board ceremony.now) dealer }
 {
-    // A share has two codes of four bytes at most.
+    // A share has two codes of four bytes at most. A fixed array, as there is no heap.
     let mut shares = [0; 128];
     let serving = find_serving(ceremony, dealer);
     let seats = serving.as_slice();

@@ -30,7 +30,7 @@ impl fmt::Display for Named<'_> {
     }
 }
 
-// Bytes in hexadecimal digits, each behind a space.
+// Bytes in hexadecimal digits, each behind a space. Each program has these lines; a crate for them would be longer.
 #[derive(Clone, Copy)]
 struct Hex<'a>(&'a [u8]);
 
