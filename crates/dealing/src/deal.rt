@@ -9,7 +9,6 @@ ghost use Rattle.dealing.specs.Refusals.{Writes, where_passed, deal_drawn_up, sh
 use crate::fault::DealingFault;
 use group::codes::{write_code, write_element};
 use group::group::Group;
-use protocol::kind::Kind;
 use sharing::commitment::commit;
 use sharing::evaluation::{judge_codes, value_of_known};
 use sharing::linear::Linear;
@@ -74,7 +73,8 @@ impl<'a> Coefficients<'a> {
             return Err(DealingFault::Output);
         }
         write_code(out, 0, 2, (size - 2) as u32);
-        write_code(out, 2, 2, Kind::Deal.number() as u32);
+        // The number of the kind, as the definition of a Deal's bytes has it.
+        write_code(out, 2, 2, 2);
         write_code(out, 4, 1, seat as u32);
         self.write_commitments::<G>(out, 5);
         Ok(size)
