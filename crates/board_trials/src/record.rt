@@ -97,6 +97,7 @@ fn commitment<G: Group>((a, b): (u32, u32)) -> u32 {
 }
 
 impl Record {
+    // The kinds are plain numbers, so that the bytes do not come from the code under test.
     pub(super) fn bytes<G: Group>(self) -> RecordBytes {
         match self {
             Record::Opening(n, t) => opening::<G>(n, t),

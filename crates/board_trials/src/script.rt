@@ -157,6 +157,7 @@ fn check_share<G: Group>(
     Ok(())
 }
 
+// A script is data, so a step is matched where it is played.
 fn take_step<G: Group>(
     rt: &impl Abort,
     ceremony: &mut Ceremony<'_, G>,

@@ -49,7 +49,7 @@ fn records() -> &'static [Record; 24] {
     RECORDS
 }
 
-// How often each number came.
+// How often each number came, as refusals and phases are told by numbers.
 #[derive(Drop)]
 struct Counts([u32; 16]);
 

@@ -76,10 +76,12 @@ fn deal_to_seat<G: Group>(
     commitments: &[u8],
     seat: u8,
 ) -> io::Result<()> {
+    // Fixed arrays here and below: the outputs are lent, and their sizes are those of the largest record and share.
     let mut share = [0u8; 8];
     let coefficients = dealing.coefficients;
     match coefficients.draw_up_share::<G>(seat, &mut share) {
         Ok(length) => {
+            // Never so; the test is for the slices below.
             if length > 8 {
                 return Ok(());
             }
@@ -104,6 +106,7 @@ fn deal_in<G: Group>(rt: HostRuntime, dealing: &Dealing) -> io::Result<()> {
     let mut record = [0u8; 128];
     match coefficients.draw_up_deal::<G>(dealing.dealer, &mut record) {
         Ok(length) => {
+            // Never so; the test is for the slices below.
             if length < 5 || length > 128 {
                 return Ok(());
             }
@@ -154,8 +157,8 @@ fn recover<G: Group>(rt: HostRuntime, dealing: &Dealing, seats: &[u8]) -> io::Re
     }
 }
 
-fn main(rt: HostRuntime) -> io::Result<()> {
-    // These calls do nothing: their contracts are the theorems.
+// These calls do nothing: their contracts are the theorems.
+fn call_theorems() {
     codes_read_back();
     powers_obey_laws();
     product_is_remainder();
@@ -173,6 +176,10 @@ fn main(rt: HostRuntime) -> io::Result<()> {
     guarantee_holds();
     guarantee_is_met();
     figures_hold();
+}
+
+fn main(rt: HostRuntime) -> io::Result<()> {
+    call_theorems();
     let first = Dealing {
         dealer: 1,
         seats: 3,

@@ -29,6 +29,7 @@ fn check_answer(
     expected: Result<u32, GroupFault>,
 ) {
     if let Err(fault) = answer {
+        // The numbers of the reasons are what is tested.
         let reason = if fault == NO_CANDIDATE { 1 } else { 2 };
         assert_eq!(rt; fault.reason(), reason, "{}", n);
         assert_eq!(rt; fault.place(), PLACE, "{}", n);

@@ -44,6 +44,7 @@ impl fmt::Display for Hex<'_> {
 }
 
 // Opens the ceremony with an Opening, and posts any other record; tells how many equations were tested.
+// By the bytes, since what is no record is given too.
 fn give<G: Group>(ceremony: &mut Ceremony<'_, G>, bytes: &[u8]) -> Result<u8, CeremonyFault> {
     if let [_, _, 1, 0, ..] = bytes {
         ceremony.open(bytes)?;
@@ -89,6 +90,7 @@ fn print_seats<G: Group>(rt: &impl Print, ceremony: &Ceremony<'_, G>) -> io::Res
 }
 
 fn print_key<G: Group>(rt: &impl Print, ceremony: &Ceremony<'_, G>) -> io::Result<()> {
+    // An element's code has four bytes at most. Outputs and areas are lent, so they are fixed arrays.
     let mut code = [0u8; 4];
     match write_key(ceremony, &mut code) {
         Ok(length) => println!(rt; "key:{}", Hex(&code[..length])),
