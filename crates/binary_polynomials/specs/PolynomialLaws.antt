@@ -1,16 +1,17 @@
 -- Group 2 keeps the laws. Proofs.
-use Rattle.std.specs.Prelude.{◌≡◌, ℕ, zero, suc, ◌+◌, ◌-◌, ◌*◌, ◌/◌, ◌%◌, ◌^◌, ◌<◌, ◌≤◌, true, ltb, bit_xor, nat_lt, refl}
+use Rattle.std.specs.Prelude.{◌≡◌, ℕ, zero, suc, ◌+◌, ◌-◌, ◌*◌, ◌/◌, ◌%◌, ◌^◌, ◌<◌, ◌≤◌, ltb, bit_xor, nat_lt, refl}
 use Rattle.std.proofs.Common.{sym, ap, ap₂, subst, ◌∙◌, ⊎_elim, mul-zero, mod-lt, zero-mul, one-mul, pow-suc, div-add-mod', add-zero, zero-add, arith, lit<, lit≤}
 use Rattle.std.proofs.lemmas.Nat.{xor_comm, xor_lt, xor_shr, xor_mod, xor_block}
 use Rattle.std.specs.Int.Bits.{xor_assoc, xor_zero_r, xor_self, xor_shifted}
-use Rattle.std.proofs.lemmas.Bool.{ltb-true, lt-ltb, and_parts, and_from, cases_lt}
-use Rattle.group.specs.Monoid.{power, Commutative}
+use Rattle.std.proofs.lemmas.Bool.{ltb-true, lt-ltb, and_parts, cases_lt}
+use Rattle.group.specs.Monoid.{Commutative}
 use Rattle.group.specs.Meaning.{Lawful, Prime}
 use Rattle.group.specs.Subgroup.{positive_below}
+use Rattle.roots.specs.Candidates.{AreNumbers, AreRoots}
 use Rattle.binary_polynomials.specs.Polynomials.{times_z, sum_of_shifts, times_reduced, polynomials}
 use Rattle.group.specs.ModularLaws.{prime_by, undivided}
-use Rattle.group.specs.PowerLaws.{power_computed, squared, choose}
-use Rattle.group.specs.SubgroupLaws.{roots_commutative, root_of, root_from}
+use Rattle.group.specs.PowerLaws.{squared, choose}
+use Rattle.group.specs.SubgroupLaws.{root_of, below_limit, root_computed, roots_below}
 
 abbrev product : ℕ → ℕ → ℕ
 product = sum_of_shifts 17
@@ -191,19 +192,6 @@ pub prime : Prime 131071
 unfolding undivided
 prime = prime_by 131071 361 tt (lit< tt) (lit< tt)
 
--- no power of 0 is 1
-zero_power : (k : ℕ) → power times_reduced 0 (suc k) ≡ 0
-unfolding power
-zero_power k = sum_zero 17 (power times_reduced 0 k)
-
-positive : (u : ℕ) → power times_reduced u 131071 ≡ 1 → 0 < u
-positive zero e = let z = zero_power 131070 in absurd (omega arith)
-positive (suc u) e = omega arith
-
-root : (u : ℕ) → positive_below 131072 u ≡ true → squared product 17 1 u 131071 ≡ 1 → polynomials.member u ≡ true
-root u h e = root_from (positive_below 131072) times_reduced 131071 u h
-    (power_computed all_polynomials 17 u 1 131071 (and_parts (nat_lt 0 u) (nat_lt u 131072) h).1 (lit< tt) e)
-
 pub polynomials_lawful : Lawful polynomials
 unfolding squared choose sum_of_shifts times_z
 polynomials_lawful = record {
@@ -216,16 +204,24 @@ polynomials_lawful = record {
   q_below = lit< tt;
   q_prime = prime;
   scalar_fits = lit≤ tt;
-  member_fits = λ u h. let b = ltb-true u 131072 (and_parts (nat_lt 0 u) (nat_lt u 131072) (root_of (positive_below 131072) times_reduced 131071 u h).candid).1 in omega arith;
+  member_fits = λ u h. let b = below_limit 131072 times_reduced 131071 u h in omega arith;
   member_candidate = λ u h. (root_of (positive_below 131072) times_reduced 131071 u h).candid;
-  commutative = roots_commutative (positive_below 131072) times_reduced 131071 all_polynomials
-      (λ u h. (and_parts (nat_lt 0 u) (nat_lt u 131072) h).1)
-      (λ u h e. and_from (nat_lt 0 u) (nat_lt u 131072) (lt-ltb 0 u (positive u e)) h);
+  commutative = roots_below 131072 times_reduced 131071 all_polynomials (sum_zero 17) (lit< tt) (lit< tt);
   order = λ u h. (root_of (positive_below 131072) times_reduced 131071 u h).root;
-  g_member = root 2 refl refl;
-  h_member = root 3 refl refl;
+  g_member = root_computed 131072 times_reduced 131071 all_polynomials 17 2 refl (lit< tt) refl;
+  h_member = root_computed 131072 times_reduced 131071 all_polynomials 17 3 refl (lit< tt) refl;
   g_no_unit = λ e. omega arith;
 }
+
+pub polynomials_are_roots : AreRoots polynomials (λ u. nat_lt u 131072) 131071
+polynomials_are_roots = record {
+  q_is = refl;
+  member_is = λ u. refl;
+  candidate_factor = λ u h. (and_parts (nat_lt 0 u) (nat_lt u 131072) h).1;
+}
+
+pub polynomials_numbers : AreNumbers polynomials 2 3 3 1 2 3
+polynomials_numbers = record { number_is = refl; w_is = refl; s_is = refl; unit_is = refl; g_is = refl; h_is = refl }
 
 -- one turn of the sum
 pub sum_turn : (acc n m x y : ℕ) → m ≡ suc n → bit_xor (bit_xor acc (y % 2 * x)) (sum_of_shifts n (times_z x) (y / 2)) ≡ bit_xor acc (sum_of_shifts m x y)

@@ -19,10 +19,6 @@ use Rattle.board_index.proofs.Opening.{open_board, open_kept}
 use Rattle.frames.specs.Reading.{OfKind}
 use Rattle.board.specs.Posting.{answer_of, posting_answer, opening_answer, AfterPosting, AfterOpening}
 
-pub appended_is : (s : State) (bytes area : List ℕ) → area ≡ appended s bytes
-    → ◌≡◌ {A = State} (record { area = area; used = s.used + length bytes; n = s.n; t = s.t; phase = s.phase; places = s.places; truths = s.truths }) (closed_at s bytes s.phase)
-appended_is s bytes area e = ap (λ (x : List ℕ). record { area = x; used = s.used + length bytes; n = s.n; t = s.t; phase = s.phase; places = s.places; truths = s.truths }) e
-
 -- a record against which nothing is said, by its kind
 module _ (m : Meaning) (s : State) (bytes : List ℕ) (kind : Kind) (i j : ℕ) (truth : Bool) (kept : Kept m s) where
   pub files : OfKind m s.t bytes kind → is_indexed kind ≡ true → posting_fault m (board_of m s) bytes ≡ None
@@ -45,9 +41,6 @@ module _ (m : Meaning) (s : State) (bytes : List ℕ) (kind : Kind) (i j : ℕ) 
     filed equations =
         (record { area = ap (λ (x : State). x.area) is; used = ap (λ (x : State). x.used) is }, ap (board_of m) is ∙ file_board m laws s bytes kind i j truth kept f)
 
-    pub filed_kept : Kept m after
-    filed_kept = subst (Kept m) (sym is) (file_kept m laws s bytes kind i j truth kept f)
-
 -- what posting answers for a taken record
 pub answered_as : (m : Meaning) (s : State) (bytes : List ℕ) (kind : Kind) (equations : ℕ) → posting_fault m (board_of m s) bytes ≡ None → kind_with (kind_field bytes) ≡ Some kind
     → equations ≡ equations_taken (Some kind) → Ok equations ≡ posting_answer m (board_of m s) bytes
@@ -60,23 +53,12 @@ pub closes : (m : Meaning) (s : State) (bytes : List ℕ) (phase : Phase) → Of
     → phase ≡ phase_of m (posted m (board_of m s) bytes) → Closes m s bytes phase
 closes m s bytes phase of none next = record { taken = none; is = kind_number_lem (kind_field bytes) kinds.Close of.named; next = next }
 
-pub closed_is : (s t : State) (bytes : List ℕ) (phase : Phase) → t ≡ closed_at s bytes s.phase
-    → ◌≡◌ {A = State} (record { area = t.area; used = t.used; n = t.n; t = t.t; phase = phase; places = t.places; truths = t.truths }) (closed_at s bytes phase)
-closed_is s t bytes phase e = ap (λ (x : State). record { area = x.area; used = x.used; n = x.n; t = x.t; phase = phase; places = x.places; truths = x.truths }) e
-
 module _ (m : Meaning) (laws : Lawful m) (s : State) (bytes : List ℕ) (phase : Phase) (kept : Kept m s) (c : Closes m s bytes phase) (after : State) (is : after ≡ closed_at s bytes phase) where
   pub closed : (equations : ℕ) → AfterPosting m s bytes (Ok equations) after
   closed equations =
       (record { area = ap (λ (x : State). x.area) is; used = ap (λ (x : State). x.used) is }, ap (board_of m) is ∙ close_board m laws s bytes phase kept c)
 
-  pub closed_kept : Kept m after
-  closed_kept = subst (Kept m) (sym is) (close_kept m laws s bytes phase kept c)
-
 -- an Opening
-pub opened_is : (s t : State) (bytes : List ℕ) → t ≡ closed_at s bytes s.phase
-    → ◌≡◌ {A = State} (record { area = t.area; used = t.used; n = n_field bytes; t = t_field bytes; phase = Dealing; places = t.places; truths = t.truths }) (opened_at s bytes)
-opened_is s t bytes e = ap (λ (x : State). record { area = x.area; used = x.used; n = n_field bytes; t = t_field bytes; phase = Dealing; places = x.places; truths = x.truths }) e
-
 pub opening_answered : (m : Meaning) (s : State) (bytes : List ℕ) → opening_fault m (board_of m s) (length s.area) bytes ≡ None
     → Ok (tt {0}) ≡ opening_answer m (board_of m s) (length s.area) bytes tt
 opening_answered m s bytes none = sym (ap (λ (o : Option CeremonyFault). answer_of o (tt {0})) none)
@@ -84,6 +66,3 @@ opening_answered m s bytes none = sym (ap (λ (o : Option CeremonyFault). answer
 module _ (m : Meaning) (laws : Lawful m) (s : State) (bytes : List ℕ) (kept : Kept m s) (none : opening_fault m (board_of m s) (length s.area) bytes ≡ None) (after : State) (is : after ≡ opened_at s bytes) where
   pub opened_as : AfterOpening {A = Unit {0}} m s bytes (Ok tt) after
   opened_as = (record { area = ap (λ (x : State). x.area) is; used = ap (λ (x : State). x.used) is }, ap (board_of m) is ∙ open_board m laws s bytes kept none)
-
-  pub opened_kept : Kept m after
-  opened_kept = subst (Kept m) (sym is) (open_kept m laws s bytes kept none)

@@ -5,3 +5,4 @@ pub mod Testing
 pub mod Appending
 pub mod Answering
 pub mod NextPhase
+pub mod Equations

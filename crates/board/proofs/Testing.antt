@@ -1,5 +1,5 @@
 -- The tests of a kind that are left once the frame, the kind, the length and the phase have passed.
-use Rattle.std.proofs.Common.{◌≡◌, ℕ, ◌+◌, ◌≤◌, Bool, true, false, cond, not, ◌&&◌, ◌||◌, eqb, leb, List, [], ◌∷◌, ◌++◌, Some, None, Option, sym, refl, ap, ◌∙◌, arith}
+use Rattle.std.proofs.Common.{◌≡◌, ℕ, ◌+◌, ◌≤◌, Bool, true, false, cond, not, ◌&&◌, ◌||◌, eqb, leb, List, [], ◌∷◌, ◌++◌, Some, None, Err, Option, sym, refl, ap, ◌∙◌, arith}
 use Rattle.std.proofs.lemmas.Bool.{eq-eqb, ne_eqb, not_from_false, le-leb, and_from}
 use Rattle.group.specs.Meaning.{Meaning}
 use Rattle.protocol.specs.declared.kind.Kind.{Kind}
@@ -13,16 +13,13 @@ use Rattle.protocol.specs.declared.fault.CeremonyFault.TheVariants.{Record, OutO
 use Rattle.protocol.specs.Seats.{or_else, holds}
 use Rattle.protocol.specs.Record.{kind_number, kind_with, kind_field, length_field, layout_of, length_of, writer_of}
 use Rattle.protocol.specs.Board.{Board, phase_of, phase_number, all_revealed}
-use Rattle.protocol.specs.Refusals.{unless, first_fault, frame_test, length_test, phase_test, tests_of, tests_for, posting_fault, is_framed}
+use Rattle.protocol.specs.Refusals.{unless, first_fault, frame_test, length_test, phase_test, tests_of, tests_for, posting_fault, equations_taken, is_framed}
 use Rattle.protocol.proofs.Counting.{clash}
+use Rattle.protocol.proofs.Faults.{skip, unless_none}
 use Rattle.board_index.specs.State.{State, board_of}
 use Rattle.board_index.specs.Kept.{Kept}
+use Rattle.board.specs.Posting.{answer_of, posting_answer}
 use Rattle.frames.specs.Reading.{OfKind, Misread, is_posted}
-
--- a test that passes is passed over
-pub pass : {F : Type 0} (test : Option F) (rest : List (Option F)) → test ≡ None → first_fault (test ∷ rest) ≡ first_fault rest
-unfolding first_fault
-pass test rest e = ap (λ o. or_else o (first_fault rest)) e
 
 pub stop : {F : Type 0} (test : Option F) (rest : List (Option F)) (fault : F) → test ≡ Some fault → first_fault (test ∷ rest) ≡ Some fault
 unfolding first_fault
@@ -34,18 +31,15 @@ fault_append [] b = refl
 fault_append (None ∷ a) b = fault_append a b
 fault_append (Some f ∷ a) b = refl
 
-unless_true : {F : Type 0} (b : Bool) (f : F) → b ≡ true → unless b f ≡ None
-unless_true b f e = ap (λ (x : Bool). unless x f) e
-
 module _ (m : Meaning) (b : Board) (bytes : List ℕ) (opened : phase_number (phase_of m b) ≡ 0 → ⊥) where
   started : unless (not (eqb (phase_number (phase_of m b)) 0)) (OutOfPhase 0) ≡ None
-  started = unless_true _ (OutOfPhase 0) (not_from_false _ (ne_eqb _ 0 opened))
+  started = unless_none _ (OutOfPhase 0) (not_from_false _ (ne_eqb _ 0 opened))
 
   -- behind the frame and the kind
   pub by_kind : (kind : Kind) → is_framed bytes ≡ true → kind_with (kind_field bytes) ≡ Some kind → posting_fault m b bytes ≡ first_fault (tests_of m b bytes kind)
   unfolding posting_fault
   by_kind kind framed named =
-      pass _ _ started ∙ pass (frame_test bytes) _ (unless_true _ _ framed) ∙ ap (λ (o : Option Kind). first_fault (tests_for m b bytes o)) named
+      skip _ _ started ∙ skip (frame_test bytes) _ (unless_none _ _ framed) ∙ ap (λ (o : Option Kind). first_fault (tests_for m b bytes o)) named
 
 -- behind the length of a kind and the test of its phase
 module _ (m : Meaning) (s : State) (bytes : List ℕ) (kind : Kind) (kept : Kept m s) (of : OfKind m s.t bytes kind) (opened : phase_number s.phase ≡ 0 → ⊥) where
@@ -57,8 +51,8 @@ module _ (m : Meaning) (s : State) (bytes : List ℕ) (kind : Kind) (kept : Kept
       let long : length_field bytes ≡ length_of m (board_of m s).t (layout_of kind) = of.long ∙ ap (λ (t : ℕ). length_of m t (layout_of kind)) kept.t in
       by_kind m (board_of m s) bytes (λ none. opened (is ∙ none)) kind of.framed of.named
       ∙ ap first_fault tests
-      ∙ pass _ _ (unless_true _ (Record (records.Length 0)) (eq-eqb _ _ long))
-      ∙ pass phase rest home
+      ∙ skip _ _ (unless_none _ (Record (records.Length 0)) (eq-eqb _ _ long))
+      ∙ skip phase rest home
 
 -- a kind 2 to 7, which belongs to one phase
 pub behind : (m : Meaning) (s : State) (bytes : List ℕ) (kind : Kind) (phase : Phase) (rest : List (Option CeremonyFault)) → Kept m s
@@ -67,7 +61,7 @@ pub behind : (m : Meaning) (s : State) (bytes : List ℕ) (kind : Kind) (phase :
     → posting_fault m (board_of m s) bytes ≡ first_fault rest
 behind m s bytes kind phase rest kept of in_that_phase number opened tests =
     let is : phase_number (phase_of m (board_of m s)) + 1 ≡ kind_number kind = ap (λ (p : Phase). phase_number p + 1) (sym kept.phase ∙ in_that_phase) ∙ number in
-    behind_phase m s bytes kind kept of (λ none. opened (sym (ap phase_number in_that_phase) ∙ none)) _ rest (unless_true _ (OutOfPhase 2) (eq-eqb _ _ is)) tests
+    behind_phase m s bytes kind kept of (λ none. opened (sym (ap phase_number in_that_phase) ∙ none)) _ rest (unless_none _ (OutOfPhase 2) (eq-eqb _ _ is)) tests
 
 -- a Close, which belongs to the phases 1 to 6
 pub behind_close : (m : Meaning) (s : State) (bytes : List ℕ) → Kept m s → OfKind m s.t bytes kinds.Close → 1 ≤ phase_number s.phase → phase_number s.phase ≤ 6
@@ -81,7 +75,7 @@ behind_close m s bytes kept of low high =
     (unless (leb 1 (phase_number (phase_of m (board_of m s))) && leb (phase_number (phase_of m (board_of m s))) 6) (OutOfPhase 2))
     (unless (eqb (writer_of bytes) (phase_number (phase_of m (board_of m s)))) (OutOfPhase 4)
     ∷ unless (not (eqb (phase_number (phase_of m (board_of m s))) 6) || all_revealed m (board_of m s)) (FewReveals 4) ∷ [])
-    (unless_true _ (OutOfPhase 2) (and_from _ _ (le-leb 1 (phase_number (phase_of m (board_of m s))) (omega (arith, is))) (le-leb (phase_number (phase_of m (board_of m s))) 6 (omega (arith, is))))) refl
+    (unless_none _ (OutOfPhase 2) (and_from _ _ (le-leb 1 (phase_number (phase_of m (board_of m s))) (omega (arith, is))) (le-leb (phase_number (phase_of m (board_of m s))) 6 (omega (arith, is))))) refl
     ∙ ap (λ (p : ℕ). first_fault (unless (eqb (writer_of bytes) p) (OutOfPhase 4) ∷ unless (not (eqb p 6) || all_revealed m (board_of m s)) (FewReveals 4) ∷ [])) (sym is)
 
 -- whether a record of a kind belongs to a phase
@@ -102,7 +96,7 @@ module _ (m : Meaning) (s : State) (bytes : List ℕ) (kind : Kind) (kept : Kept
       let long : length_field bytes ≡ length_of m b.t (layout_of kind) = of.long ∙ ap (λ (t : ℕ). length_of m t (layout_of kind)) kept.t in
       sym (by_kind m b bytes (λ none. opened (is ∙ none)) kind of.framed of.named
       ∙ ap first_fault tests
-      ∙ pass _ _ (unless_true _ (Record (records.Length 0)) (eq-eqb _ _ long))
+      ∙ skip _ _ (unless_none _ (Record (records.Length 0)) (eq-eqb _ _ long))
       ∙ stop phase rest (OutOfPhase 2) away)
 
   away : eqb (phase_number s.phase + 1) (kind_number kind) ≡ false → phase_test m b kind ≡ Some (OutOfPhase 2)
@@ -159,10 +153,10 @@ pub misread : (m : Meaning) (b : Board) (bytes : List ℕ) (fault : RecordFault)
 unfolding posting_fault
 misread m b bytes (records.Frame place) o h =
     ap (λ (p : ℕ). Some (Record (records.Frame p))) h.1
-    ∙ sym (pass _ _ (started m b bytes o) ∙ stop (frame_test bytes) _ (Record (records.Frame 0)) (ap (λ (v : Bool). unless v (Record (records.Frame 0))) h.0))
+    ∙ sym (skip _ _ (started m b bytes o) ∙ stop (frame_test bytes) _ (Record (records.Frame 0)) (ap (λ (v : Bool). unless v (Record (records.Frame 0))) h.0))
 misread m b bytes (records.Kind place) o h =
     ap (λ (p : ℕ). Some (Record (records.Kind p))) h.2
-    ∙ sym (pass _ _ (started m b bytes o) ∙ pass (frame_test bytes) _ (unless_true _ _ h.0) ∙ unnamed m b bytes (kind_with (kind_field bytes)) h.1)
+    ∙ sym (skip _ _ (started m b bytes o) ∙ skip (frame_test bytes) _ (unless_none _ _ h.0) ∙ unnamed m b bytes (kind_with (kind_field bytes)) h.1)
 misread m b bytes (records.Length place) o h =
     ap (λ (p : ℕ). Some (Record (records.Length p))) h.2
     ∙ sym (by_kind m b bytes o h.1.0 h.0 h.1.1 ∙ wrong m b bytes h.1.0 h.1.2 (ap (λ (v : Bool). unless v (Record (records.Length 0))) h.1.3))
@@ -182,3 +176,9 @@ begun phases.Objecting other e = omega arith
 begun phases.Revealing other e = omega arith
 begun phases.Finished other e = omega arith
 begun phases.Void other e = omega arith
+
+-- what posting answers for a record of a kind that its phase does not take
+pub turned_away : (m : Meaning) (s : State) (bytes : List ℕ) (kind : Kind) → Kept m s → OfKind m s.t bytes kind → (s.phase ≡ phases.Unopened → ⊥) → is_home s.phase kind ≡ false
+    → Err (OutOfPhase 2) ≡ posting_answer m (board_of m s) bytes
+turned_away m s bytes kind kept of begun_already away =
+    ap (λ (o : Option CeremonyFault). answer_of o (equations_taken (kind_with (kind_field bytes)))) (out_of_phase m s bytes kind kept of (begun s.phase begun_already) away)

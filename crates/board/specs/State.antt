@@ -1,8 +1,10 @@
--- The state of a ceremony. Definitions.
-use Rattle.board_index.specs.State.{State}
+-- The state of a ceremony, and the board that its bytes say. Definitions.
+use Rattle.group.specs.declared.group.Group.{Ghosts}
+use Rattle.protocol.specs.Board.{Board}
+use Rattle.board_index.specs.State.{State, board_of}
 use Rattle.board.specs.declared.ceremony.Ceremony.{Ceremony}
 
-abbrev pub state_of : {G : Type 0} → Ceremony G → State
+abbrev pub state_of : {G E S : Type 0} {g : Ghosts G E S} {e : _} → Ceremony G E S g e → State
 state_of c = record {
   area = c.area.now;
   used = c.used;
@@ -12,3 +14,6 @@ state_of c = record {
   places = c.index.places;
   truths = c.index.truths;
 }
+
+abbrev pub board : {G E S : Type 0} {g : Ghosts G E S} {e : _} → Ceremony G E S g e → Board
+board {g = g} c = board_of g.meaning (state_of c)

@@ -1,14 +1,12 @@
 // What is said against a record of a kind in its phase, behind its frame, kind and length.
 ghost use Rattle.std.specs.Prelude.{◌≡◌, ◌+◌, ◌*◌, ◌<◌, ◌≤◌, length, None};
 ghost use Rattle.group.specs.Code.{code_at};
-ghost use Rattle.sharing.specs.Codes.{decoded_from, refused_from, element_refused, scalar_refused};
-ghost use Rattle.protocol.specs.declared.kind.Kind.TheVariants.{Deal, Complaint, Answer, Exposure, Objection, Reveal, Close};
+ghost use Rattle.sharing.specs.Codes.{decoded_from, refused_from, scalar_refused};
+ghost use Rattle.protocol.specs.declared.kind.Kind.TheVariants.{Deal, Complaint, Answer, Exposure, Objection, Reveal};
 ghost use Rattle.protocol.specs.declared.phase.Phase.TheVariants.{Dealing, Complaining, Answering, Exposing, Objecting, Revealing};
-ghost use Rattle.protocol.specs.Board.{share_in, passes1, passes2};
+ghost use Rattle.protocol.specs.Board.{share_in};
 ghost use Rattle.protocol.specs.Refusals.{posting_fault};
-ghost use Rattle.board_index.specs.State.{board_of};
-ghost use Rattle.board_index.specs.Kept.{Kept};
-ghost use Rattle.board.specs.State.{state_of};
+ghost use Rattle.board.specs.State.{board};
 ghost use Rattle.frames.specs.Reading.{OfKind};
 ghost use Rattle.board.specs.Posting.{fault_of, SeatAt, TwoSeats, JudgesRecord};
 
@@ -22,30 +20,33 @@ use sharing::evaluation::judge_codes;
 use sharing::linear::Linear;
 use sharing::scalar::Scalar;
 
-// The elements of a Deal or an Exposure.
-fn judge_elements<G: Group>(bytes: &[u8], count: usize) -> Result<(), RecordFault>
-    requires { 5 + count * G.meaning.w ≤ length bytes.now }
-    ensures { JudgesRecord (refused_from (element_refused G.meaning bytes.now) G.meaning.w 5 count) result }
+// The codes of a record, from a place on: its elements or its scalars.
+fn judge<G: Group, L: Linear<G>>(
+    bytes: &[u8],
+    place: usize,
+    count: usize,
+) -> Result<(), RecordFault>
+    requires { place + count * L.width ≤ length bytes.now }
+    ensures { JudgesRecord (refused_from (L.refusal bytes.now) L.width place count) result }
 {
-    judge_codes::<G, Element<G, G::Element>>(bytes, 5, count)?;
+    judge_codes::<G, L>(bytes, place, count)?;
     Ok(())
 }
 
-// The share in an Answer, an Objection or a Reveal.
-fn judge_share<G: Group>(bytes: &[u8]) -> Result<(), RecordFault>
-    requires { 6 + 2 * G.meaning.s ≤ length bytes.now }
-    ensures { JudgesRecord (refused_from (scalar_refused G.meaning bytes.now) G.meaning.s 6 2) result }
+// The share in an Answer, an Objection or a Reveal, whose codes were judged.
+pub(crate) fn share_of<G: Group>(bytes: &[u8]) -> Share<G>
+    requires within { 6 + 2 * G.meaning.s ≤ length bytes.now }
+    requires judged { refused_from (scalar_refused G.meaning bytes.now) G.meaning.s 6 2 ≡ None }
+    ensures { (G.scalar_of result.left.value, G.scalar_of result.right.value) ≡ share_in (decoded_from (λ place. code_at bytes.now G.meaning.s place) G.meaning.s 6 2) }
 {
-    judge_codes::<G, Scalar<G, G::Scalar>>(bytes, 6, 2)?;
-    Ok(())
+    <Share<G> as Linear<G>>::known(bytes, 6)
 }
 
 impl<'a, G: Group> Ceremony<'a, G> {
     // The seat at a place of a record.
     fn seat_at(&self, bytes: &[u8], place: usize) -> Result<u8, CeremonyFault>
-        requires kept { Kept G.meaning (state_of self.now) }
         requires within { place < length bytes.now }
-        ensures { SeatAt (board_of G.meaning (state_of self.now)).n bytes.now place result }
+        ensures { SeatAt (board self.now).n bytes.now place result }
     {
         let seat = bytes[place];
         if seat < 1 || seat > self.n {
@@ -55,10 +56,10 @@ impl<'a, G: Group> Ceremony<'a, G> {
     }
 
     // The writer and the second seat of a record that may not name its own writer.
+    #[tactic(auto, unfolding(protocol::specs::Refusals::first_fault))]
     fn two_seats(&self, bytes: &[u8]) -> Result<(u8, u8), CeremonyFault>
-        requires kept { Kept G.meaning (state_of self.now) }
         requires within { 5 < length bytes.now }
-        ensures { TwoSeats (board_of G.meaning (state_of self.now)) bytes.now result }
+        ensures { TwoSeats (board self.now) bytes.now result }
     {
         let writer = self.seat_at(bytes, 4)?;
         let second = self.seat_at(bytes, 5)?;
@@ -69,48 +70,25 @@ impl<'a, G: Group> Ceremony<'a, G> {
     }
 }
 
-impl<'a, G: Group> Ceremony<'a, G> {
-    // Equation 1, for the share in the bytes of a record.
-    pub(crate) fn opens_in(&self, bytes: &[u8], dealer: u8, seat: u8) -> bool
-        requires kept { Kept G.meaning (state_of self.now) }
-        requires within { 6 + 2 * G.meaning.s ≤ length bytes.now }
-        requires judged { refused_from (scalar_refused G.meaning bytes.now) G.meaning.s 6 2 ≡ None }
-        ensures { result ≡ passes1 G.meaning (board_of G.meaning (state_of self.now)) dealer seat (share_in (decoded_from (λ place. code_at bytes.now G.meaning.s place) G.meaning.s 6 2)) }
-    {
-        self.opens(dealer, seat, <Share<G> as Linear<G>>::known(bytes, 6))
-    }
-
-    // Equation 2, for its first part.
-    fn is_exposed_in(&self, bytes: &[u8], dealer: u8, seat: u8) -> bool
-        requires kept { Kept G.meaning (state_of self.now) }
-        requires within { 6 + 2 * G.meaning.s ≤ length bytes.now }
-        requires judged { refused_from (scalar_refused G.meaning bytes.now) G.meaning.s 6 2 ≡ None }
-        ensures { result ≡ passes2 G.meaning (board_of G.meaning (state_of self.now)) dealer seat (share_in (decoded_from (λ place. code_at bytes.now G.meaning.s place) G.meaning.s 6 2)).0 }
-    {
-        self.is_exposed(dealer, seat, <Share<G> as Linear<G>>::known(bytes, 6))
-    }
-}
-
+// One check for each kind, as the table of refusals has one row for each.
 impl<'a, G: Group> Ceremony<'a, G> {
     pub(crate) fn check_deal(&self, bytes: &[u8]) -> Result<(), CeremonyFault>
-        requires kept { Kept G.meaning (state_of self.now) }
         requires kind { OfKind G.meaning self.now.t bytes.now Deal }
         requires phase { self.now.phase ≡ Dealing }
-        ensures { fault_of result ≡ posting_fault G.meaning (board_of G.meaning (state_of self.now)) bytes.now }
+        ensures { fault_of result ≡ posting_fault G.meaning (board self.now) bytes.now }
     {
         let writer = self.seat_at(bytes, 4)?;
         if self.has(Kind::Deal, writer, 0) {
             return Err(CeremonyFault::Repeated { place: 4 });
         }
-        judge_elements::<G>(bytes, self.t as usize + 1)?;
+        judge::<G, Element<G, G::Element>>(bytes, 5, self.t as usize + 1)?;
         Ok(())
     }
 
     pub(crate) fn check_complaint(&self, bytes: &[u8]) -> Result<(), CeremonyFault>
-        requires kept { Kept G.meaning (state_of self.now) }
         requires kind { OfKind G.meaning self.now.t bytes.now Complaint }
         requires phase { self.now.phase ≡ Complaining }
-        ensures { fault_of result ≡ posting_fault G.meaning (board_of G.meaning (state_of self.now)) bytes.now }
+        ensures { fault_of result ≡ posting_fault G.meaning (board self.now) bytes.now }
     {
         let (writer, dealer) = self.two_seats(bytes)?;
         if !self.has(Kind::Deal, dealer, 0) {
@@ -123,10 +101,9 @@ impl<'a, G: Group> Ceremony<'a, G> {
     }
 
     pub(crate) fn check_answer(&self, bytes: &[u8]) -> Result<(), CeremonyFault>
-        requires kept { Kept G.meaning (state_of self.now) }
         requires kind { OfKind G.meaning self.now.t bytes.now Answer }
         requires phase { self.now.phase ≡ Answering }
-        ensures { fault_of result ≡ posting_fault G.meaning (board_of G.meaning (state_of self.now)) bytes.now }
+        ensures { fault_of result ≡ posting_fault G.meaning (board self.now) bytes.now }
     {
         let (dealer, complainer) = self.two_seats(bytes)?;
         if !self.has(Kind::Complaint, complainer, dealer) {
@@ -135,15 +112,14 @@ impl<'a, G: Group> Ceremony<'a, G> {
         if self.has(Kind::Answer, dealer, complainer) {
             return Err(CeremonyFault::Repeated { place: 4 });
         }
-        judge_share::<G>(bytes)?;
+        judge::<G, Scalar<G, G::Scalar>>(bytes, 6, 2)?;
         Ok(())
     }
 
     pub(crate) fn check_exposure(&self, bytes: &[u8]) -> Result<(), CeremonyFault>
-        requires kept { Kept G.meaning (state_of self.now) }
         requires kind { OfKind G.meaning self.now.t bytes.now Exposure }
         requires phase { self.now.phase ≡ Exposing }
-        ensures { fault_of result ≡ posting_fault G.meaning (board_of G.meaning (state_of self.now)) bytes.now }
+        ensures { fault_of result ≡ posting_fault G.meaning (board self.now) bytes.now }
     {
         let writer = self.seat_at(bytes, 4)?;
         if !self.is_qualified(writer) {
@@ -152,16 +128,15 @@ impl<'a, G: Group> Ceremony<'a, G> {
         if self.has(Kind::Exposure, writer, 0) {
             return Err(CeremonyFault::Repeated { place: 4 });
         }
-        judge_elements::<G>(bytes, self.t as usize + 1)?;
+        judge::<G, Element<G, G::Element>>(bytes, 5, self.t as usize + 1)?;
         Ok(())
     }
 
     // Taken is an Objection with a share that passes equation 1 and fails equation 2.
     pub(crate) fn check_objection(&self, bytes: &[u8]) -> Result<(), CeremonyFault>
-        requires kept { Kept G.meaning (state_of self.now) }
         requires kind { OfKind G.meaning self.now.t bytes.now Objection }
         requires phase { self.now.phase ≡ Objecting }
-        ensures { fault_of result ≡ posting_fault G.meaning (board_of G.meaning (state_of self.now)) bytes.now }
+        ensures { fault_of result ≡ posting_fault G.meaning (board self.now) bytes.now }
     {
         let (objector, dealer) = self.two_seats(bytes)?;
         if !self.is_qualified(dealer) || !self.has(Kind::Exposure, dealer, 0) {
@@ -170,12 +145,12 @@ impl<'a, G: Group> Ceremony<'a, G> {
         if self.has(Kind::Objection, objector, dealer) {
             return Err(CeremonyFault::Repeated { place: 4 });
         }
-        judge_share::<G>(bytes)?;
-        if !self.opens_in(bytes, dealer, objector) {
+        judge::<G, Scalar<G, G::Scalar>>(bytes, 6, 2)?;
+        if !self.opens(dealer, objector, share_of::<G>(bytes)) {
             let equation = Equation::First;
             return Err(CeremonyFault::Unequal { place: 6, equation });
         }
-        if self.is_exposed_in(bytes, dealer, objector) {
+        if self.is_exposed(dealer, objector, share_of::<G>(bytes)) {
             let equation = Equation::Second;
             return Err(CeremonyFault::Unequal { place: 6, equation });
         }
@@ -183,10 +158,9 @@ impl<'a, G: Group> Ceremony<'a, G> {
     }
 
     pub(crate) fn check_reveal(&self, bytes: &[u8]) -> Result<(), CeremonyFault>
-        requires kept { Kept G.meaning (state_of self.now) }
         requires kind { OfKind G.meaning self.now.t bytes.now Reveal }
         requires phase { self.now.phase ≡ Revealing }
-        ensures { fault_of result ≡ posting_fault G.meaning (board_of G.meaning (state_of self.now)) bytes.now }
+        ensures { fault_of result ≡ posting_fault G.meaning (board self.now) bytes.now }
     {
         let writer = self.seat_at(bytes, 4)?;
         let dealer = self.seat_at(bytes, 5)?;
@@ -196,8 +170,8 @@ impl<'a, G: Group> Ceremony<'a, G> {
         if self.has(Kind::Reveal, writer, dealer) {
             return Err(CeremonyFault::Repeated { place: 4 });
         }
-        judge_share::<G>(bytes)?;
-        if !self.opens_in(bytes, dealer, writer) {
+        judge::<G, Scalar<G, G::Scalar>>(bytes, 6, 2)?;
+        if !self.opens(dealer, writer, share_of::<G>(bytes)) {
             let equation = Equation::First;
             return Err(CeremonyFault::Unequal { place: 6, equation });
         }

@@ -1,14 +1,14 @@
 // What the taken records say and decide, found by the index.
-ghost use Rattle.std.specs.Prelude.{◌≡◌, ℕ, ◌+◌, ◌*◌, ◌≤◌, true, not, ◌||◌, length, nat_le, nat_lt};
+ghost use Rattle.std.specs.Prelude.{◌≡◌, ◌+◌, true, not, ◌||◌, nat_le, nat_lt, ◌==◌};
 ghost use Rattle.group.specs.Monoid.{power};
 ghost use Rattle.group.specs.Meaning.{products};
 ghost use Rattle.protocol.specs.declared.kind.Kind.TheVariants.{Deal, Exposure};
-ghost use Rattle.protocol.specs.Seats.{count, every};
+ghost use Rattle.sharing.specs.Value.{value_at};
+ghost use Rattle.protocol.specs.Seats.{count, every, holds};
 ghost use Rattle.protocol.specs.Record.{layout_of, Elements, SecondAndShare};
 ghost use Rattle.protocol.specs.Board.{entry, has as is_taken, passes1, passes2, complained, answered, qualified, contested, revealed, all_revealed, starts, phase_of, exposure_of};
-ghost use Rattle.board_index.specs.State.{board_of, is_indexed, look};
-ghost use Rattle.board_index.specs.Kept.{Kept};
-ghost use Rattle.board.specs.State.{state_of};
+ghost use Rattle.board_index.specs.State.{is_indexed};
+ghost use Rattle.board.specs.State.{board};
 ghost use Rattle.board.specs.Posting.{ValueIn, ShareIn, FirstIn};
 
 use crate::ceremony::Ceremony;
@@ -24,45 +24,38 @@ use sharing::linear::Linear;
 impl<'a, G: Group> Ceremony<'a, G> {
     // The number of seats, 0 before the ceremony is opened.
     pub fn n(&self) -> u8
-        requires { Kept G.meaning (state_of self.now) }
-        ensures { result ≡ (board_of G.meaning (state_of self.now)).n }
+        ensures { result ≡ (board self.now).n }
     {
         self.n
     }
 
     // The threshold.
     pub fn t(&self) -> u8
-        requires { Kept G.meaning (state_of self.now) }
-        ensures { result ≡ (board_of G.meaning (state_of self.now)).t }
+        ensures { result ≡ (board self.now).t }
     {
         self.t
     }
 
     pub fn phase(&self) -> Phase
-        requires { Kept G.meaning (state_of self.now) }
-        ensures { result ≡ phase_of G.meaning (board_of G.meaning (state_of self.now)) }
+        ensures { result ≡ phase_of G.meaning (board self.now) }
     {
         self.phase
     }
 
     // Whether a record of a kind, by a writer and naming a second seat, is taken.
     pub fn has(&self, kind: Kind, writer: u8, second: u8) -> bool
-        requires kept { Kept G.meaning (state_of self.now) }
         requires kind { is_indexed kind ≡ true }
-        ensures { result ≡ is_taken (board_of G.meaning (state_of self.now)).taken kind writer second }
+        ensures { result ≡ is_taken (board self.now).taken kind writer second }
     {
         self.index.find(kind, writer, second).is_some()
     }
 
     // The value at a seat of the elements in a dealer's Deal or Exposure.
     fn value_in(&self, kind: Kind, dealer: u8, seat: u8) -> Option<G::Element>
-        requires kept { Kept G.meaning (state_of self.now) }
         requires kind { (is_indexed kind ≡ true) × (layout_of kind ≡ Elements) }
-        ensures { ValueIn G.meaning G.number_of (entry (board_of G.meaning (state_of self.now)).taken kind dealer 0) seat result }
+        ensures { ValueIn G.meaning G.number_of (entry (board self.now).taken kind dealer 0) seat result }
     {
-        let Some(place) = self.index.find(kind, dealer, 0) else {
-            return None;
-        };
+        let place = self.index.find(kind, dealer, 0)?;
         let elements = &self.area[..self.used];
         let count = self.t as usize + 1;
         let value = value_of_known::<G, Element<G, G::Element>>(elements, place + 5, count, seat);
@@ -71,71 +64,61 @@ impl<'a, G: Group> Ceremony<'a, G> {
 
     // The share in an Answer, an Objection or a Reveal.
     pub fn share_in(&self, kind: Kind, writer: u8, second: u8) -> Option<Share<G>>
-        requires kept { Kept G.meaning (state_of self.now) }
         requires kind { (is_indexed kind ≡ true) × (layout_of kind ≡ SecondAndShare) }
-        ensures { ShareIn (λ x. (G.scalar_of x.left.value, G.scalar_of x.right.value)) (entry (board_of G.meaning (state_of self.now)).taken kind writer second) result }
+        ensures { ShareIn (λ x. (G.scalar_of x.left.value, G.scalar_of x.right.value)) (entry (board self.now).taken kind writer second) result }
     {
-        let Some(place) = self.index.find(kind, writer, second) else {
-            return None;
-        };
+        let place = self.index.find(kind, writer, second)?;
         let codes = &self.area[..self.used];
         Some(<Share<G> as Linear<G>>::known(codes, place + 6))
     }
 
     // A_0 in a dealer's Exposure.
     pub fn first_exposed(&self, dealer: u8) -> Option<G::Element>
-        requires { Kept G.meaning (state_of self.now) }
-        ensures { FirstIn G.meaning.unit G.number_of (exposure_of (board_of G.meaning (state_of self.now)) dealer) result }
+        ensures { FirstIn G.meaning.unit G.number_of (exposure_of (board self.now) dealer) result }
     {
-        let Some(place) = self.index.find(Kind::Exposure, dealer, 0) else {
-            return None;
-        };
+        let place = self.index.find(Kind::Exposure, dealer, 0)?;
         let codes = &self.area[..self.used];
         let first = <Element<G, G::Element> as Linear<G>>::known(codes, place + 5);
         Some(first.value)
     }
 
+    // Whether an element is the value at a seat of those in a dealer's Deal or Exposure.
+    fn is_value_in(&self, kind: Kind, dealer: u8, seat: u8, element: G::Element) -> bool
+        requires kind { (is_indexed kind ≡ true) × (layout_of kind ≡ Elements) }
+        ensures { result ≡ holds (entry (board self.now).taken kind dealer 0) (λ codes. G.number_of element == value_at (products G.meaning) codes seat) }
+    {
+        self.value_in(kind, dealer, seat)
+            .is_some_and(move |value| element == value)
+    }
+
     // Equation 1, for a dealer, a seat and a share.
     pub fn opens(&self, dealer: u8, seat: u8, share: Share<G>) -> bool
-        requires kept { Kept G.meaning (state_of self.now) }
-        ensures { result ≡ passes1 G.meaning (board_of G.meaning (state_of self.now)) dealer seat (G.scalar_of share.left.value, G.scalar_of share.right.value) }
+        ensures { result ≡ passes1 G.meaning (board self.now) dealer seat (G.scalar_of share.left.value, G.scalar_of share.right.value) }
     {
-        match self.value_in(Kind::Deal, dealer, seat) {
-            Some(value) => G::equal(commit::<G>(share), value),
-            None => false,
-        }
+        self.is_value_in(Kind::Deal, dealer, seat, commit::<G>(share))
     }
 
     // Equation 2.
     pub fn is_exposed(&self, dealer: u8, seat: u8, share: Share<G>) -> bool
-        requires kept { Kept G.meaning (state_of self.now) }
-        ensures { result ≡ passes2 G.meaning (board_of G.meaning (state_of self.now)) dealer seat (G.scalar_of share.left.value) }
+        ensures { result ≡ passes2 G.meaning (board self.now) dealer seat (G.scalar_of share.left.value) }
     {
-        match self.value_in(Kind::Exposure, dealer, seat) {
-            Some(value) => G::equal(power_of::<G>(G::g(), share.left.value), value),
-            None => false,
-        }
+        let power = power_of::<G>(G::g(), share.left.value);
+        self.is_value_in(Kind::Exposure, dealer, seat, power)
     }
 
     // How many seats have a record of a kind taken that names a dealer.
     pub fn count_naming(&self, kind: Kind, dealer: u8) -> u8
-        requires kept { Kept G.meaning (state_of self.now) }
         requires kind { is_indexed kind ≡ true }
-        ensures { result ≡ count (board_of G.meaning (state_of self.now)).n (λ j. is_taken (board_of G.meaning (state_of self.now)).taken kind j dealer) }
+        ensures { result ≡ count (board self.now).n (λ j. is_taken (board self.now).taken kind j dealer) }
     {
-        let mut seats = 0;
-        for j in 1..self.n + 1 {
-            if self.has(kind, j, dealer) {
-                seats += 1;
-            }
-        }
-        seats
+        (1..self.n + 1)
+            .filter(|j| self.has(kind, *j, dealer))
+            .count() as u8
     }
 
     // Whether a dealer has answered a seat truly, if that seat complained of it.
     fn has_answered(&self, dealer: u8, seat: u8) -> bool
-        requires kept { Kept G.meaning (state_of self.now) }
-        ensures { result ≡ (not (complained (board_of G.meaning (state_of self.now)) seat dealer) || answered G.meaning (board_of G.meaning (state_of self.now)) dealer seat) }
+        ensures { result ≡ (not (complained (board self.now) seat dealer) || answered G.meaning (board self.now) dealer seat) }
     {
         if !self.has(Kind::Complaint, seat, dealer) {
             return true;
@@ -145,21 +128,15 @@ impl<'a, G: Group> Ceremony<'a, G> {
 
     // Whether a dealer has answered each complaint truly.
     fn has_answered_all(&self, dealer: u8) -> bool
-        requires kept { Kept G.meaning (state_of self.now) }
-        ensures { result ≡ every (board_of G.meaning (state_of self.now)).n (λ j. not (complained (board_of G.meaning (state_of self.now)) j dealer) || answered G.meaning (board_of G.meaning (state_of self.now)) dealer j) }
+        ensures { result ≡ every (board self.now).n (λ j. not (complained (board self.now) j dealer) || answered G.meaning (board self.now) dealer j) }
     {
-        for j in 1..self.n + 1 {
-            if !self.has_answered(dealer, j) {
-                return false;
-            }
-        }
-        true
+        (1..self.n + 1).all(|j| self.has_answered(dealer, j))
     }
 
     // Whether a dealer is qualified, by the records taken so far.
+    #[tactic(auto, unfolding(protocol::specs::Board::qualified))]
     pub fn is_qualified(&self, dealer: u8) -> bool
-        requires kept { Kept G.meaning (state_of self.now) }
-        ensures { result ≡ qualified G.meaning (board_of G.meaning (state_of self.now)) dealer }
+        ensures { result ≡ qualified G.meaning (board self.now) dealer }
     {
         if !self.has(Kind::Deal, dealer, 0) {
             return false;
@@ -172,33 +149,22 @@ impl<'a, G: Group> Ceremony<'a, G> {
 
     // How many dealers are qualified.
     pub fn qualified_count(&self) -> u8
-        requires kept { Kept G.meaning (state_of self.now) }
-        ensures { result ≡ count (board_of G.meaning (state_of self.now)).n (qualified G.meaning (board_of G.meaning (state_of self.now))) }
+        ensures { result ≡ count (board self.now).n (qualified G.meaning (board self.now)) }
     {
-        let mut dealers = 0;
-        for i in 1..self.n + 1 {
-            if self.is_qualified(i) {
-                dealers += 1;
-            }
-        }
-        dealers
+        (1..self.n + 1).filter(|i| self.is_qualified(*i)).count() as u8
     }
 
     // Whether the phase of the objections has ended.
     fn are_objections_closed(&self) -> bool
-        requires kept { Kept G.meaning (state_of self.now) }
-        ensures { result ≡ nat_lt 5 (starts (board_of G.meaning (state_of self.now)).taken) }
+        ensures { result ≡ nat_lt 5 (starts (board self.now).taken) }
     {
-        match self.phase {
-            Phase::Revealing | Phase::Finished => true,
-            _ => false,
-        }
+        matches!(self.phase, Phase::Revealing | Phase::Finished)
     }
 
     // Whether a dealer is contested: objected to or, once the objections are closed, without an Exposure.
+    #[tactic(auto, unfolding(protocol::specs::Board::contested), using(crate::proofs::SeatLoops::some_count))]
     pub fn is_contested(&self, dealer: u8) -> bool
-        requires kept { Kept G.meaning (state_of self.now) }
-        ensures { result ≡ contested G.meaning (board_of G.meaning (state_of self.now)) dealer }
+        ensures { result ≡ contested G.meaning (board self.now) dealer }
     {
         if !self.is_qualified(dealer) {
             return false;
@@ -214,8 +180,7 @@ impl<'a, G: Group> Ceremony<'a, G> {
 
     // Whether a dealer has Reveals of t + 1 seats, if it is contested.
     fn is_revealed(&self, dealer: u8) -> bool
-        requires kept { Kept G.meaning (state_of self.now) }
-        ensures { result ≡ (not (contested G.meaning (board_of G.meaning (state_of self.now)) dealer) || nat_le ((board_of G.meaning (state_of self.now)).t + 1) (count (board_of G.meaning (state_of self.now)).n (λ j. revealed (board_of G.meaning (state_of self.now)) j dealer))) }
+        ensures { result ≡ (not (contested G.meaning (board self.now) dealer) || nat_le ((board self.now).t + 1) (count (board self.now).n (λ j. revealed (board self.now) j dealer))) }
     {
         if !self.is_contested(dealer) {
             return true;
@@ -225,14 +190,8 @@ impl<'a, G: Group> Ceremony<'a, G> {
 
     // Whether each contested dealer has Reveals of t + 1 seats.
     pub fn are_all_revealed(&self) -> bool
-        requires kept { Kept G.meaning (state_of self.now) }
-        ensures { result ≡ all_revealed G.meaning (board_of G.meaning (state_of self.now)) }
+        ensures { result ≡ all_revealed G.meaning (board self.now) }
     {
-        for i in 1..self.n + 1 {
-            if !self.is_revealed(i) {
-                return false;
-            }
-        }
-        true
+        (1..self.n + 1).all(|i| self.is_revealed(i))
     }
 }

@@ -1,13 +1,12 @@
 // Making a ceremony and opening it.
-ghost use Rattle.std.specs.Prelude.{◌≡◌, ◌≤◌, List, length, None};
+ghost use Rattle.std.specs.Prelude.{◌≡◌, length};
 ghost use Rattle.protocol.specs.Board.{empty};
 ghost use Rattle.protocol.specs.Refusals.{area_needed, opening_fault};
-ghost use Rattle.board_index.specs.State.{board_of};
-ghost use Rattle.board_index.specs.Kept.{Kept};
-ghost use Rattle.board.specs.State.{state_of};
+ghost use Rattle.board.specs.State.{board, state_of};
 ghost use Rattle.board.specs.Posting.{fault_of, opening_answer, AfterOpening};
 
 use crate::ceremony::Ceremony;
+use crate::posting::append;
 use board_index::index::Index;
 use frames::frame::read_frame;
 use group::codes::read_code;
@@ -21,8 +20,8 @@ pub fn area_needed<G: Group>(n: u8, t: u8) -> usize
     ensures { result ≡ area_needed G.meaning n t }
 {
     let n = n as usize;
-    let elements = 5 + (t as usize + 1) * G::width();
-    let share = 6 + 2 * G::scalar_width();
+    let elements = 5 + (t as usize + 1) * G::W;
+    let share = 6 + 2 * G::S;
     54 + 2 * n * elements + 6 * n * n.saturating_sub(1) + (3 * n * n).saturating_sub(2 * n) * share
 }
 
@@ -30,8 +29,7 @@ impl<'a, G: Group> Ceremony<'a, G> {
     // A ceremony over an area, unopened.
     pub fn new(area: &'a mut [u8]) -> Ceremony<'a, G>
         ensures area { ((state_of result).area ≡ area.old) × ((state_of result).used ≡ 0) }
-        ensures board { board_of G.meaning (state_of result) ≡ empty }
-        ensures kept { Kept G.meaning (state_of result) }
+        ensures board { board result ≡ empty }
         ensures lender { result.area.ghost_name ≡ area.entry.ghost_name }
     {
         Ceremony {
@@ -46,9 +44,9 @@ impl<'a, G: Group> Ceremony<'a, G> {
     }
 
     // What is said against an Opening.
+    #[tactic(auto, unfolding(protocol::specs::Refusals::first_fault, protocol::specs::Refusals::opening_fault))]
     fn check_opening(&self, bytes: &[u8]) -> Result<(), CeremonyFault>
-        requires { Kept G.meaning (state_of self.now) }
-        ensures { fault_of result ≡ opening_fault G.meaning (board_of G.meaning (state_of self.now)) (length self.now.area.now) bytes.now }
+        ensures { fault_of result ≡ opening_fault G.meaning (board self.now) (length self.now.area.now) bytes.now }
     {
         if read_frame(bytes)? != 1 {
             return Err(CeremonyFault::Record(RecordFault::Kind { place: 2 }));
@@ -56,10 +54,10 @@ impl<'a, G: Group> Ceremony<'a, G> {
         if bytes.len() != 24 {
             return Err(CeremonyFault::Record(RecordFault::Length { place: 0 }));
         }
-        if self.phase.number() != 0 {
+        let Phase::Unopened = self.phase else {
             return Err(CeremonyFault::OutOfPhase { place: 2 });
-        }
-        if read_code(bytes, 4, 2) != G::group_number() as u32 {
+        };
+        if read_code(bytes, 4, 2) != G::NUMBER as u32 {
             return Err(CeremonyFault::Parameter { place: 4 });
         }
         let n = bytes[6];
@@ -78,15 +76,12 @@ impl<'a, G: Group> Ceremony<'a, G> {
 
     // Opens the ceremony: n, t and the label are those of the record.
     pub fn open(&mut self, bytes: &[u8]) -> Result<(), CeremonyFault>
-        requires { Kept G.meaning (state_of self.old) }
-        ensures answer { result ≡ opening_answer G.meaning (board_of G.meaning (state_of self.old)) (length (state_of self.old).area) bytes.now tt }
+        ensures answer { result ≡ opening_answer G.meaning (board self.old) (length (state_of self.old).area) bytes.now tt }
         ensures after { AfterOpening G.meaning (state_of self.old) bytes.now result (state_of self.new) }
-        ensures kept { Kept G.meaning (state_of self.new) }
         ensures lender { self.new.area.ghost_name ≡ self.old.area.ghost_name }
     {
-        let _of: PhantomData<G> = PhantomData;
         self.check_opening(bytes)?;
-        self.append(bytes);
+        self.used = append(self.area, self.used, bytes);
         self.n = bytes[6];
         self.t = bytes[7];
         self.phase = Phase::Dealing;

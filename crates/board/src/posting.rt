@@ -1,23 +1,34 @@
 // Taking records: what a record does is decided by the phase and its kind together.
-ghost use Rattle.std.specs.Prelude.{◌≡◌, ◌+◌, ◌*◌, ◌≤◌, true, length, Some, None};
+ghost use Rattle.std.specs.Prelude.{◌≡◌, ◌+◌, ◌≤◌, true, length, Some, None, Ok};
+ghost use Rattle.std.proofs.Math.Seq.{paste};
 ghost use Rattle.protocol.specs.declared.kind.Kind.TheVariants.{Answer};
-ghost use Rattle.protocol.specs.Record.{kind_number, kind_field, read_record};
+ghost use Rattle.protocol.specs.Record.{read_record};
 ghost use Rattle.protocol.specs.Board.{share_in, passes1};
-ghost use Rattle.protocol.specs.Refusals.{posting_fault, posted, equations_taken};
-ghost use Rattle.board_index.specs.State.{board_of, is_indexed, closed_at, filed_at};
+ghost use Rattle.protocol.specs.Refusals.{posting_fault, equations_taken};
+ghost use Rattle.board_index.specs.State.{is_indexed, filed_at};
 ghost use Rattle.board_index.specs.Deeds.{Files};
-ghost use Rattle.board_index.specs.Kept.{Kept};
-ghost use Rattle.board.specs.State.{state_of};
+ghost use Rattle.board.specs.State.{board, state_of};
 ghost use Rattle.frames.specs.Reading.{OfKind};
-ghost use Rattle.board.specs.Posting.{fault_of, posting_answer, AfterPosting};
+ghost use Rattle.board.specs.Posting.{posting_answer, AfterPosting};
 
 use crate::ceremony::Ceremony;
+use crate::checks::share_of;
 use frames::frame::read_kind;
 use group::group::Group;
 use protocol::fault::CeremonyFault;
 use protocol::kind::Kind;
 use protocol::phase::Phase;
-use std::marker::PhantomData;
+
+// Writes a record at the end of the used bytes, and tells where it ends.
+pub(crate) fn append(area: &mut [u8], used: usize, bytes: &[u8]) -> usize
+    requires { used + length bytes.now ≤ length area.old }
+    ensures end { result ≡ used + length bytes.now }
+    ensures area { area.new ≡ paste area.old used bytes.now (length bytes.now) }
+{
+    let end = used + bytes.len();
+    area[used..end].copy_from_slice(bytes);
+    end
+}
 
 // How many equations are tested for a taken record.
 fn equations_for(kind: Kind) -> u8
@@ -42,103 +53,77 @@ fn second_of<G: Group>(kind: Kind, bytes: &[u8], t: u8) -> u8
 }
 
 impl<'a, G: Group> Ceremony<'a, G> {
-    // Writes a record behind the taken ones.
-    pub(crate) fn append(&mut self, bytes: &[u8])
-        requires { self.old.used + length bytes.now ≤ length self.old.area.now }
-        ensures state { state_of self.new ≡ closed_at (state_of self.old) bytes.now self.old.phase }
-        ensures lender { self.new.area.ghost_name ≡ self.old.area.ghost_name }
-    {
-        let start = self.used;
-        let end = start + bytes.len();
-        self.area[start..end].copy_from_slice(bytes);
-        self.used = end;
-    }
-
     // Takes a record against which nothing is said, and notes it in the index.
     fn file(&mut self, bytes: &[u8], kind: Kind, writer: u8, second: u8, truth: bool)
-        requires kept { Kept G.meaning (state_of self.old) }
         requires files { Files G.meaning (state_of self.old) bytes.now kind writer second truth }
         ensures state { state_of self.new ≡ filed_at (state_of self.old) bytes.now kind writer second truth }
         ensures lender { self.new.area.ghost_name ≡ self.old.area.ghost_name }
     {
         let place = self.used;
-        self.append(bytes);
+        self.used = append(self.area, place, bytes);
         self.index.note(kind, writer, second, place, truth);
     }
 
     // Whether a record that nothing is said against is a true Answer.
     fn is_true_answer(&self, kind: Kind, bytes: &[u8]) -> bool
-        requires kept { Kept G.meaning (state_of self.now) }
         requires kind { OfKind G.meaning self.now.t bytes.now kind }
-        requires taken { posting_fault G.meaning (board_of G.meaning (state_of self.now)) bytes.now ≡ None }
-        ensures { kind ≡ Answer → result ≡ passes1 G.meaning (board_of G.meaning (state_of self.now)) (read_record G.meaning self.now.t Answer bytes.now).writer (read_record G.meaning self.now.t Answer bytes.now).second (share_in (read_record G.meaning self.now.t Answer bytes.now).codes) }
+        requires taken { posting_fault G.meaning (board self.now) bytes.now ≡ None }
+        ensures { kind ≡ Answer → result ≡ passes1 G.meaning (board self.now) (read_record G.meaning self.now.t Answer bytes.now).writer (read_record G.meaning self.now.t Answer bytes.now).second (share_in (read_record G.meaning self.now.t Answer bytes.now).codes) }
     {
         match kind {
-            Kind::Answer => self.opens_in(bytes, bytes[4], bytes[5]),
+            Kind::Answer => self.opens(bytes[4], bytes[5], share_of::<G>(bytes)),
             _ => false,
         }
     }
 
-    // Takes a record of a kind 2 to 7, unless something was said against it.
-    fn take(
-        &mut self,
-        checked: Result<(), CeremonyFault>,
-        kind: Kind,
-        bytes: &[u8],
-    ) -> Result<u8, CeremonyFault>
-        requires kept { Kept G.meaning (state_of self.old) }
+    // Takes a record of a kind 2 to 7 against which nothing is said, and tells how many equations were tested for it.
+    fn take(&mut self, kind: Kind, bytes: &[u8]) -> u8
         requires kind { (OfKind G.meaning self.old.t bytes.now kind) × (is_indexed kind ≡ true) }
-        requires checked { fault_of checked ≡ posting_fault G.meaning (board_of G.meaning (state_of self.old)) bytes.now }
-        ensures answer { result ≡ posting_answer G.meaning (board_of G.meaning (state_of self.old)) bytes.now }
-        ensures after { AfterPosting G.meaning (state_of self.old) bytes.now result (state_of self.new) }
-        ensures kept { Kept G.meaning (state_of self.new) }
+        requires taken { posting_fault G.meaning (board self.old) bytes.now ≡ None }
+        ensures answer { Ok result ≡ posting_answer G.meaning (board self.old) bytes.now }
+        ensures after { AfterPosting G.meaning (state_of self.old) bytes.now (Ok result) (state_of self.new) }
         ensures lender { self.new.area.ghost_name ≡ self.old.area.ghost_name }
     {
-        let _of: PhantomData<G> = PhantomData;
-        checked?;
         let second = second_of::<G>(kind, bytes, self.t);
         let truth = self.is_true_answer(kind, bytes);
         self.file(bytes, kind, bytes[4], second, truth);
-        Ok(equations_for(kind))
+        equations_for(kind)
     }
 
     // Posts a record, and tells how many equations were tested for it.
     pub fn post(&mut self, bytes: &[u8]) -> Result<u8, CeremonyFault>
-        requires { Kept G.meaning (state_of self.old) }
-        ensures answer { result ≡ posting_answer G.meaning (board_of G.meaning (state_of self.old)) bytes.now }
+        ensures answer { result ≡ posting_answer G.meaning (board self.old) bytes.now }
         ensures after { AfterPosting G.meaning (state_of self.old) bytes.now result (state_of self.new) }
-        ensures kept { Kept G.meaning (state_of self.new) }
         ensures lender { self.new.area.ghost_name ≡ self.old.area.ghost_name }
     {
-        let _of: PhantomData<G> = PhantomData;
         if let Phase::Unopened = self.phase {
             return Err(CeremonyFault::OutOfPhase { place: 0 });
         }
         let kind = read_kind::<G>(bytes, self.t)?;
         match (self.phase, kind) {
             (Phase::Dealing, Kind::Deal) => {
-                let checked = self.check_deal(bytes);
-                self.take(checked, kind, bytes)
+                self.check_deal(bytes)?;
+                Ok(self.take(kind, bytes))
             }
             (Phase::Complaining, Kind::Complaint) => {
-                let checked = self.check_complaint(bytes);
-                self.take(checked, kind, bytes)
+                self.check_complaint(bytes)?;
+                Ok(self.take(kind, bytes))
             }
             (Phase::Answering, Kind::Answer) => {
-                let checked = self.check_answer(bytes);
-                self.take(checked, kind, bytes)
+                self.check_answer(bytes)?;
+                Ok(self.take(kind, bytes))
             }
             (Phase::Exposing, Kind::Exposure) => {
-                let checked = self.check_exposure(bytes);
-                self.take(checked, kind, bytes)
+                self.check_exposure(bytes)?;
+                Ok(self.take(kind, bytes))
             }
             (Phase::Objecting, Kind::Objection) => {
-                let checked = self.check_objection(bytes);
-                self.take(checked, kind, bytes)
+                self.check_objection(bytes)?;
+                Ok(self.take(kind, bytes))
             }
             (Phase::Revealing, Kind::Reveal) => {
-                let checked = self.check_reveal(bytes);
-                self.take(checked, kind, bytes)
+                self.check_reveal(bytes)?;
+                Ok(self.take(kind, bytes))
             }
             (
                 Phase::Dealing
@@ -149,8 +134,8 @@ impl<'a, G: Group> Ceremony<'a, G> {
                 | Phase::Revealing,
                 Kind::Close,
             ) => {
-                let checked = self.check_close(bytes);
-                self.take_close(checked, bytes)
+                self.check_close(bytes)?;
+                Ok(self.take_close(bytes))
             }
             (_, _) => Err(CeremonyFault::OutOfPhase { place: 2 }),
         }

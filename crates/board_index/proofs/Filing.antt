@@ -17,11 +17,11 @@ use Rattle.board_index.specs.State.{State, filled, board_of, is_indexed, slot, l
 use Rattle.board_index.specs.Room.{may_name, record_size, left}
 use Rattle.board_index.specs.Kept.{Stored, Indexed, Kept}
 use Rattle.board_index.specs.Deeds.{Files}
-use Rattle.board_index.proofs.Leaving.{left_filed, area_narrow}
+use Rattle.board_index.proofs.Leaving.{left_filed, area_narrow, named_low}
 use Rattle.board_index.proofs.Looking.{Apart, look_same, look_other, truth_same, noted_length, noted_other}
 use Rattle.board_index.proofs.JoinedCodes.{codes_right, judged_right, codes_read}
 use Rattle.board_index.proofs.Keeping.{kept_as}
-use Rattle.board_index.proofs.Passing.{Fits, fits, named_low}
+use Rattle.board_index.proofs.Passing.{Fits, fits}
 use Rattle.board_index.proofs.SamePhase.{same_entries, starts_still, phase_still}
 use Rattle.board_index.proofs.Posting as posting
 

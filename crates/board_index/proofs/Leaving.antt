@@ -100,7 +100,7 @@ grid_apart n w = grid_rows n w ((n - 1) * w) _ (λ y. refl) (λ x low high.
     let less = row_less n w x (λ j. is_seat n x && is_seat n j) (λ j. is_seat n x && (is_seat n j && not (eqb x j))) high (grind (arith, nat_tests)) (grind (arith, nat_tests)) (λ y other. grind (arith, nat_tests)) in
     omega (arith, row_seats n w x low high, mul-sub w n 1))
 
-named_low : (n : ℕ) (kind : Kind) (i j : ℕ) → may_name n kind i j ≡ true → (i ≤ n) × (j ≤ n)
+pub named_low : (n : ℕ) (kind : Kind) (i j : ℕ) → may_name n kind i j ≡ true → (i ≤ n) × (j ≤ n)
 named_low n Opening i j h = absurd (false≢true h)
 named_low n Deal i j h = grind (arith, nat_tests)
 named_low n Complaint i j h = grind (arith, nat_tests)

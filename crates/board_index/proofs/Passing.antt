@@ -1,6 +1,6 @@
 -- What the tests of a record of a kind 2 to 7 leave, where it is taken.
-use Rattle.std.proofs.Common.{◌≡◌, ℕ, ◌≤◌, Bool, true, false, ◌&&◌, eqb, List, None, refl, arith}
-use Rattle.std.proofs.lemmas.Bool.{eqb-true, and_from, and_parts, not-true, false≢true}
+use Rattle.std.proofs.Common.{◌≡◌, ℕ, true, false, List, None, refl}
+use Rattle.std.proofs.lemmas.Bool.{eqb-true, and_from, not-true, false≢true}
 use Rattle.group.specs.Meaning.{Meaning}
 use Rattle.protocol.specs.declared.kind.Kind.{Kind}
 use Rattle.protocol.specs.declared.kind.Kind.TheVariants as kinds
@@ -8,7 +8,6 @@ use Rattle.protocol.specs.Seats.{is_seat}
 use Rattle.protocol.specs.Record.{length_field, writer_of, second_of, layout_of, length_of, read_record}
 use Rattle.protocol.specs.Board.{Board, has}
 use Rattle.protocol.specs.Refusals.{tests_of}
-use Rattle.protocol.proofs.Counting.{seat_parts}
 use Rattle.protocol.proofs.Faults.{unless_true, mapped_none}
 use Rattle.protocol.proofs.Taking.{Silent}
 use Rattle.board_index.specs.State.{is_indexed}
@@ -64,27 +63,3 @@ fits m b bytes kinds.Reveal indexed a = record {
 fits m b bytes kinds.Close indexed a = absurd (false≢true indexed)
 fits m b bytes kinds.Letter indexed a = absurd (false≢true indexed)
 fits m b bytes kinds.Sheet indexed a = absurd (false≢true indexed)
-
--- the seats that a record may name are low
-alone : (n i j : ℕ) → (is_seat n i && eqb j 0) ≡ true → (i ≤ n) × (j ≤ n)
-alone n i j e =
-    let p = and_parts (is_seat n i) (eqb j 0) e in
-    let seat = seat_parts n i p.0 in
-    (seat.1, omega (arith, eqb-true j 0 p.1))
-
-pair : (n i j : ℕ) (more : Bool) → (is_seat n i && (is_seat n j && more)) ≡ true → (i ≤ n) × (j ≤ n)
-pair n i j more e =
-    let p = and_parts (is_seat n i) (is_seat n j && more) e in
-    ((seat_parts n i p.0).1, (seat_parts n j (and_parts (is_seat n j) more p.1).0).1)
-
-pub named_low : (n : ℕ) (kind : Kind) (i j : ℕ) → may_name n kind i j ≡ true → (i ≤ n) × (j ≤ n)
-named_low n kinds.Opening i j e = absurd (false≢true e)
-named_low n kinds.Deal i j e = alone n i j e
-named_low n kinds.Complaint i j e = pair n i j _ e
-named_low n kinds.Answer i j e = pair n i j _ e
-named_low n kinds.Exposure i j e = alone n i j e
-named_low n kinds.Objection i j e = pair n i j _ e
-named_low n kinds.Reveal i j e = let p = and_parts (is_seat n i) (is_seat n j) e in ((seat_parts n i p.0).1, (seat_parts n j p.1).1)
-named_low n kinds.Close i j e = absurd (false≢true e)
-named_low n kinds.Letter i j e = absurd (false≢true e)
-named_low n kinds.Sheet i j e = absurd (false≢true e)

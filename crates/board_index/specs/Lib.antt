@@ -3,3 +3,4 @@ pub mod State
 pub mod Room
 pub mod Kept
 pub mod Deeds
+pub mod KeptLaws

@@ -1,5 +1,5 @@
 // Where each taken record begins, by kind, writer and second seat.
-ghost use Rattle.std.specs.Prelude.{◌≡◌, ℕ, ◌^◌, ◌<◌, ◌≤◌, Bool, true, false, length, replicate, slice_set};
+ghost use Rattle.std.specs.Prelude.{◌≡◌, ◌^◌, ◌<◌, ◌≤◌, true, false, replicate, slice_set};
 ghost use Rattle.board_index.specs.State.{is_indexed, slot, look, truth_at, noted_truths};
 
 use protocol::kind::Kind;
@@ -7,7 +7,7 @@ use protocol::kind::Kind;
 // A row of a table has the numbers 0 to 32: the seats, and 0 where a kind has no second seat.
 #[derive(Drop)]
 pub struct Index {
-    // 0 where no record is taken: the Opening stands there, and it has no entry.
+    // 0 where no record is taken: the Opening stands there, and it has no entry. An Option would double the table.
     pub places: [u32; 6534],
     // Whether the Answer of a dealer to a complainer is taken and true.
     pub truths: [bool; 1089],

@@ -3,6 +3,7 @@ use super::record::Record;
 use super::script::{Step, play_over};
 use binary_polynomials::BinaryPolynomials;
 use board::opening::area_needed;
+use protocol::phase::Phase;
 use protocol::state::SeatState;
 use residues::Residues;
 use std::test::Fail;
@@ -15,18 +16,18 @@ const OPENING: Record = Record::Start(&[
 const UNTIL_REVEALS: &[Step] = &[
     Step::Taken(OPENING, 0),
     Step::Taken(Record::Bytes(&[7, 0, 2, 0, 1, 0x90, 0, 4, 0]), 0),
-    Step::Taken(Record::Elements(2, 2, 64, 144), 0),
-    Step::Taken(Record::Elements(2, 3, 324, 16), 0),
+    Step::Taken(Record::DealCodes(2, 64, 144), 0),
+    Step::Taken(Record::DealCodes(3, 324, 16), 0),
     Step::Taken(Record::Close(1), 0),
     Step::Taken(Record::Bytes(&[4, 0, 3, 0, 2, 1]), 0),
     Step::Taken(Record::Close(2), 0),
     Step::Taken(Record::Bytes(&[8, 0, 4, 0, 1, 2, 4, 0, 1, 0]), 1),
     Step::Taken(Record::Bytes(&[3, 0, 8, 0, 3]), 0),
     Step::Taken(Record::Bytes(&[7, 0, 5, 0, 1, 0x10, 0, 4, 0]), 0),
-    Step::Taken(Record::Elements(5, 2, 64, 16), 0),
+    Step::Taken(Record::ExposureCodes(2, 64, 16), 0),
     Step::Taken(Record::Close(4), 0),
     Step::Taken(Record::Close(5), 0),
-    Step::Phase(6),
+    Step::Phase(Phase::Revealing),
     Step::Seats(&[
         (SeatState::Qualified, 1),
         (SeatState::Qualified, 0),
@@ -44,7 +45,7 @@ const FIRST_1: &[Step] = &[
     Step::Taken(BY_SEAT_2, 1),
     Step::Share(3, 1, 2),
     Step::Taken(Record::Close(6), 0),
-    Step::Phase(7),
+    Step::Phase(Phase::Finished),
     Step::Code([0x12, 0, 0xFF, 0xFF]),
     Step::Key(6),
 ];
@@ -55,7 +56,7 @@ const FIRST_2: &[Step] = &[
     Step::Taken(BY_SEAT_1, 1),
     Step::Share(3, 1, 2),
     Step::Taken(Record::Close(6), 0),
-    Step::Phase(7),
+    Step::Phase(Phase::Finished),
     Step::Code([0x12, 0, 0xFF, 0xFF]),
 ];
 
@@ -85,7 +86,10 @@ fn sizes(rt: HostRuntime) {
 
 #[test]
 fn openings(rt: HostRuntime) -> Result<(), Fail> {
-    let small = [Step::Refused(OPENING, 13, 0, 0), Step::Phase(0)];
+    let small = [
+        Step::Refused(OPENING, 13, 0, 0),
+        Step::Phase(Phase::Unopened),
+    ];
     play_over::<Residues>(&rt, &mut [0; 353], &small, &[])?;
     let equal = [Step::Refused(Record::Opening(2, 1), 12, 7, 0)];
     let many = [Step::Refused(Record::Opening(33, 1), 12, 6, 0)];

@@ -2,6 +2,7 @@
 use super::record::Record;
 use super::script::{Step, play_in};
 use binary_polynomials::BinaryPolynomials;
+use protocol::phase::Phase;
 use residues::Residues;
 use std::test::Fail;
 
@@ -17,7 +18,7 @@ const UNOPENED: &[Step] = &[
     Step::Refused(Record::Close(0), 4, 0, 0),
     Step::NoSeats,
     Step::NoKey,
-    Step::Phase(0),
+    Step::Phase(Phase::Unopened),
 ];
 
 // Of an area that is too small for 32 seats.
@@ -57,7 +58,7 @@ const OPENINGS: &[Step] = &[
     Step::Refused(Record::Opening(3, 255), 12, 7, 0),
     Step::Refused(Record::Opening(32, 16), 12, 7, 0),
     Step::Refused(Record::Opening(32, 15), 13, 0, 0),
-    Step::Phase(0),
+    Step::Phase(Phase::Unopened),
     Step::Taken(Record::Opening(3, 1), 0),
     Step::Refused(Record::Opening(3, 1), 4, 2, 0),
     Step::Refused(Record::Opening(33, 1), 4, 2, 0),
@@ -65,7 +66,7 @@ const OPENINGS: &[Step] = &[
     Step::Refused(Record::Start(&[2, 0, 1, 0]), 3, 0, 0),
     Step::Refused(Record::Start(&[3, 0, 8, 0, 1]), 2, 2, 0),
     Step::Refused(Record::Start(&[]), 1, 0, 0),
-    Step::Phase(1),
+    Step::Phase(Phase::Dealing),
 ];
 
 // Also lengths that are wrong in both groups, of kinds that are out of phase.
@@ -103,7 +104,7 @@ const NO_RECORDS: &[Step] = &[
     Step::Refused(Record::Bytes(&[9, 0, 7, 0, 1, 2, 0, 0, 0, 0, 0]), 3, 0, 0),
     Step::Refused(Record::Bytes(&[2, 0, 8, 0]), 3, 0, 0),
     Step::Refused(Record::Bytes(&[4, 0, 8, 0, 1, 0]), 3, 0, 0),
-    Step::Phase(1),
+    Step::Phase(Phase::Dealing),
 ];
 
 #[test]

@@ -2,6 +2,7 @@
 use super::record::Record;
 use super::script::{Step, play_in};
 use binary_polynomials::BinaryPolynomials;
+use protocol::phase::Phase;
 use protocol::state::SeatState;
 use residues::Residues;
 use std::test::Fail;
@@ -14,7 +15,7 @@ const DEALING: &[Step] = &[
     Step::Taken(Record::Opening(5, 1), 0),
     Step::Refused(Record::Complaint(0, 9), 4, 2, 0),
     Step::Refused(Record::Answer(0, 9, WRONG, WRONG), 4, 2, 0),
-    Step::Refused(Record::Elements(5, 9, 0, 0), 4, 2, 0),
+    Step::Refused(Record::ExposureCodes(9, 0, 0), 4, 2, 0),
     Step::Refused(Record::Objection(0, 9, WRONG, WRONG), 4, 2, 0),
     Step::Refused(Record::Reveal(0, 9, WRONG, WRONG), 4, 2, 0),
     Step::Refused(Record::Close(0), 4, 4, 0),
@@ -22,16 +23,16 @@ const DEALING: &[Step] = &[
     Step::Refused(Record::Close(8), 4, 4, 0),
     Step::Refused(Record::Deal(0, (2, 1), (1, 0)), 5, 4, 0),
     Step::Refused(Record::Deal(6, (2, 1), (1, 0)), 5, 4, 0),
-    Step::Refused(Record::Elements(2, 255, 0, 0), 5, 4, 0),
-    Step::Refused(Record::Elements(2, 1, 0, 0), 9, 5, 1),
+    Step::Refused(Record::DealCodes(255, 0, 0), 5, 4, 0),
+    Step::Refused(Record::DealCodes(1, 0, 0), 9, 5, 1),
     Step::Taken(Record::Deal(1, (2, 1), (1, 0)), 0),
     Step::Refused(Record::Deal(1, (2, 1), (1, 0)), 8, 4, 0),
-    Step::Refused(Record::Elements(2, 1, 0, 0), 8, 4, 0),
+    Step::Refused(Record::DealCodes(1, 0, 0), 8, 4, 0),
     Step::Taken(Record::Deal(5, (3, 0), (2, 1)), 0),
     Step::Taken(Record::Deal(4, (1, 2), (2, 0)), 0),
     Step::Taken(Record::Deal(2, (3, 0), (2, 1)), 0),
     Step::Taken(Record::Close(1), 0),
-    Step::Phase(2),
+    Step::Phase(Phase::Complaining),
     Step::Refused(Record::Deal(3, (2, 1), (1, 0)), 4, 2, 0),
     Step::Refused(Record::Close(1), 4, 4, 0),
     Step::Refused(Record::Complaint(0, 1), 5, 4, 0),
@@ -45,7 +46,7 @@ const DEALING: &[Step] = &[
     Step::Refused(Record::Complaint(3, 1), 8, 4, 0),
     Step::Taken(Record::Complaint(1, 5), 0),
     Step::Taken(Record::Close(2), 0),
-    Step::Phase(3),
+    Step::Phase(Phase::Answering),
     Step::Refused(Record::Complaint(2, 1), 4, 2, 0),
     Step::Refused(Record::Answer(0, 3, 5, 1), 5, 4, 0),
     Step::Refused(Record::Answer(6, 0, WRONG, 1), 5, 4, 0),
@@ -66,18 +67,18 @@ const DEALING: &[Step] = &[
 
 // The Exposure of seat 1 is false.
 const EXPOSING: &[Step] = &[
-    Step::Phase(4),
+    Step::Phase(Phase::Exposing),
     Step::Refused(Record::Answer(1, 3, 5, 1), 4, 2, 0),
     Step::Refused(Record::Exposure(0, 2, 1), 5, 4, 0),
-    Step::Refused(Record::Elements(5, 6, 0, 0), 5, 4, 0),
-    Step::Refused(Record::Elements(5, 3, 0, 0), 7, 4, 0),
+    Step::Refused(Record::ExposureCodes(6, 0, 0), 5, 4, 0),
+    Step::Refused(Record::ExposureCodes(3, 0, 0), 7, 4, 0),
     Step::Refused(Record::Exposure(5, 3, 2), 7, 4, 0),
-    Step::Refused(Record::Elements(5, 1, 0, 0), 9, 5, 1),
+    Step::Refused(Record::ExposureCodes(1, 0, 0), 9, 5, 1),
     Step::Taken(Record::Exposure(1, 2, 2), 0),
-    Step::Refused(Record::Elements(5, 1, 0, 0), 8, 4, 0),
+    Step::Refused(Record::ExposureCodes(1, 0, 0), 8, 4, 0),
     Step::Taken(Record::Exposure(2, 3, 2), 0),
     Step::Taken(Record::Close(4), 0),
-    Step::Phase(5),
+    Step::Phase(Phase::Objecting),
     Step::Refused(Record::Exposure(4, 1, 2), 4, 2, 0),
     Step::Refused(Record::Objection(0, 0, 5, 1), 5, 4, 0),
     Step::Refused(Record::Objection(6, 1, WRONG, 1), 5, 4, 0),
@@ -103,7 +104,7 @@ const EXPOSING: &[Step] = &[
         (SeatState::Out, 1),
     ]),
     Step::Taken(Record::Close(5), 0),
-    Step::Phase(6),
+    Step::Phase(Phase::Revealing),
     Step::Refused(Record::Objection(4, 1, 6, 1), 4, 2, 0),
     Step::Refused(Record::Reveal(6, 6, WRONG, 1), 5, 4, 0),
     Step::Refused(Record::Reveal(1, 0, WRONG, 1), 5, 5, 0),
@@ -126,7 +127,7 @@ const EXPOSING: &[Step] = &[
     Step::Share(4, 1, 2),
     Step::NoKey,
     Step::Taken(Record::Close(6), 0),
-    Step::Phase(7),
+    Step::Phase(Phase::Finished),
     Step::FewRows,
     Step::Key(6),
     Step::Seats(&[

@@ -1,14 +1,11 @@
 // A script: records with what the ceremony answers to each, and what can be read off it in between.
-ghost use Rattle.std.specs.Prelude.{◌≡◌};
-ghost use Rattle.board_index.specs.Kept.{Kept};
-ghost use Rattle.board.specs.State.{state_of};
-
-use super::record::{Record, write_record};
+use super::record::Record;
 use board::ceremony::Ceremony;
 use group::codes::write_element;
 use group::group::Group;
 use group::powers::power_of;
 use protocol::fault::CeremonyFault;
+use protocol::phase::Phase;
 use protocol::report::{Layer, Report};
 use protocol::row::SeatRow;
 use protocol::state::SeatState;
@@ -16,7 +13,6 @@ use readings::key::write_key;
 use readings::reveals::revealed_share;
 use readings::seats::seat_list;
 use sharing::commitment::Share;
-use std::marker::PhantomData;
 use std::process::Abort;
 use std::test::Fail;
 
@@ -24,9 +20,9 @@ use std::test::Fail;
 pub(super) enum Step {
     // Taken, with so many equations tested.
     Taken(Record, u8),
-    // Refused with a number, at a place, for a reason.
+    // Refused with a number, at a place, for a reason: as numbers, which a test by the fault's name would not see.
     Refused(Record, u8, usize, u8),
-    Phase(u8),
+    Phase(Phase),
     Seats(&'static [(SeatState, u8)]),
     // The share that is revealed of a dealer.
     Share(u8, u32, u32),
@@ -39,9 +35,10 @@ pub(super) enum Step {
     FewRows,
 }
 
+// From the number alone, as the documents have it, to compare with the layer that is told.
 fn layer_of(number: u8) -> Layer {
     match number {
-        1 | 2 | 3 => Layer::Frame,
+        1..=3 => Layer::Frame,
         9 => Layer::Group,
         14 | 15 => Layer::Custodian,
         _ => Layer::Ceremony,
@@ -72,19 +69,11 @@ pub(super) fn check_refused<T: Drop>(
 }
 
 // Hands a record to the opening call or to the posting call.
-fn hand<G: Group>(ceremony: &mut Ceremony<'_, G>, record: Record) -> Result<u8, CeremonyFault>
-    requires { Kept G.meaning (state_of ceremony.old) }
-    ensures kept { Kept G.meaning (state_of ceremony.new) }
-    ensures lender { ceremony.new.area.ghost_name ≡ ceremony.old.area.ghost_name }
-{
-    let mut bytes = [0; 32];
-    let size = write_record::<G>(record, &mut bytes);
+fn hand<G: Group>(ceremony: &mut Ceremony<'_, G>, record: Record) -> Result<u8, CeremonyFault> {
+    let bytes = record.bytes::<G>();
     match record {
-        Record::Opening(_, _) | Record::Start(_) => match ceremony.open(&bytes[0..size]) {
-            Ok(_) => Ok(0),
-            Err(fault) => Err(fault),
-        },
-        _ => ceremony.post(&bytes[0..size]),
+        Record::Opening(_, _) | Record::Start(_) => ceremony.open(bytes.as_slice()).map(|()| 0),
+        _ => ceremony.post(bytes.as_slice()),
     }
 }
 
@@ -99,31 +88,26 @@ fn check_seats<G: Group>(
     rt: &impl Abort,
     ceremony: &Ceremony<'_, G>,
     seats: &[(SeatState, u8)],
-) -> Result<(), Fail>
-    requires { Kept G.meaning (state_of ceremony.now) }
-{
+) -> Result<(), Fail> {
     let mut rows = [UNWRITTEN; 8];
     seat_list(ceremony, &mut rows)?;
-    for k in 0..8usize {
-        let (state, complaints) = seats.get(k).copied().unwrap_or((SeatState::Out, 77));
-        assert_eq!(rt; rows[k], SeatRow { state, complaints }, "{}", k);
+    let mut expected = [UNWRITTEN; 8];
+    for (row, (state, complaints)) in expected.iter_mut().zip(seats.iter().copied()) {
+        *row = SeatRow { state, complaints };
     }
+    assert_eq!(rt; rows, expected);
     Ok(())
 }
 
-// Refused, and the rows stay.
+// Refused for two rows, and they stay.
 fn check_no_seats<G: Group>(
     rt: &impl Abort,
     ceremony: &Ceremony<'_, G>,
-    rows: &mut [SeatRow],
     number: u8,
-) -> Result<(), Fail>
-    requires { Kept G.meaning (state_of ceremony.now) }
-{
-    check_refused(rt, seat_list(ceremony, rows), number, 0, 0)?;
-    for row in rows {
-        assert_eq!(rt; *row, UNWRITTEN);
-    }
+) -> Result<(), Fail> {
+    let mut rows = [UNWRITTEN; 2];
+    check_refused(rt, seat_list(ceremony, &mut rows), number, 0, 0)?;
+    assert_eq!(rt; rows, [UNWRITTEN; 2]);
     Ok(())
 }
 
@@ -132,29 +116,23 @@ fn check_code<G: Group>(
     rt: &impl Abort,
     ceremony: &Ceremony<'_, G>,
     code: [u8; 4],
-) -> Result<(), Fail>
-    requires { Kept G.meaning (state_of ceremony.now) }
-{
+) -> Result<(), Fail> {
     let mut out = [0xFF; 4];
-    check_refused(rt, write_key(ceremony, &mut out[0..1]), 14, 0, 0)?;
+    check_refused(rt, write_key(ceremony, &mut out[..1]), 14, 0, 0)?;
     assert_eq!(rt; out, [0xFF; 4]);
-    assert_eq!(rt; write_key(ceremony, &mut out)?, G::width());
+    assert_eq!(rt; write_key(ceremony, &mut out)?, G::W);
     assert_eq!(rt; out, code);
     Ok(())
 }
 
-fn check_key<G: Group>(rt: &impl Abort, ceremony: &Ceremony<'_, G>, log: u32) -> Result<(), Fail>
-    requires { Kept G.meaning (state_of ceremony.now) }
-{
+fn check_key<G: Group>(rt: &impl Abort, ceremony: &Ceremony<'_, G>, log: u32) -> Result<(), Fail> {
     let mut code = [0xFF; 4];
     write_element::<G>(power_of::<G>(G::g(), G::reduced(log)), &mut code, 0);
     check_code(rt, ceremony, code)
 }
 
 // Refused, and the output stays.
-fn check_no_key<G: Group>(rt: &impl Abort, ceremony: &Ceremony<'_, G>) -> Result<(), Fail>
-    requires { Kept G.meaning (state_of ceremony.now) }
-{
+fn check_no_key<G: Group>(rt: &impl Abort, ceremony: &Ceremony<'_, G>) -> Result<(), Fail> {
     let mut out = [0xFF; 4];
     check_refused(rt, write_key(ceremony, &mut out), 4, 0, 0)?;
     assert_eq!(rt; out, [0xFF; 4]);
@@ -173,36 +151,28 @@ fn check_share<G: Group>(
     ceremony: &Ceremony<'_, G>,
     dealer: u8,
     share: (u32, u32),
-) -> Result<(), Fail>
-    requires { Kept G.meaning (state_of ceremony.now) }
-{
+) -> Result<(), Fail> {
     let revealed = numbers_of::<G>(revealed_share(ceremony, dealer));
-    assert_eq!(rt; revealed.0, share.0);
-    assert_eq!(rt; revealed.1, share.1);
+    assert_eq!(rt; revealed, share);
     Ok(())
 }
 
+// A script is data, so a step is matched where it is played.
 fn take_step<G: Group>(
     rt: &impl Abort,
     ceremony: &mut Ceremony<'_, G>,
     step: Step,
-) -> Result<(), Fail>
-    requires { Kept G.meaning (state_of ceremony.old) }
-    ensures kept { Kept G.meaning (state_of ceremony.new) }
-    ensures lender { ceremony.new.area.ghost_name ≡ ceremony.old.area.ghost_name }
-{
-    let _of: PhantomData<G> = PhantomData;
+) -> Result<(), Fail> {
     match step {
         Step::Taken(record, equations) => {
-            let counted = hand(ceremony, record)?;
-            assert_eq!(rt; counted, equations);
+            assert_eq!(rt; hand(ceremony, record)?, equations);
             Ok(())
         }
         Step::Refused(record, number, place, reason) => {
             check_refused(rt, hand(ceremony, record), number, place, reason)
         }
         Step::Phase(phase) => {
-            assert_eq!(rt; ceremony.phase().number(), phase);
+            assert_eq!(rt; ceremony.phase(), phase);
             Ok(())
         },
         Step::Seats(seats) => check_seats(rt, ceremony, seats),
@@ -210,8 +180,8 @@ fn take_step<G: Group>(
         Step::Key(log) => check_key(rt, ceremony, log),
         Step::Code(code) => check_code(rt, ceremony, code),
         Step::NoKey => check_no_key(rt, ceremony),
-        Step::NoSeats => check_no_seats(rt, ceremony, &mut [UNWRITTEN; 2], 4),
-        Step::FewRows => check_no_seats(rt, ceremony, &mut [UNWRITTEN; 2], 14),
+        Step::NoSeats => check_no_seats(rt, ceremony, 4),
+        Step::FewRows => check_no_seats(rt, ceremony, 14),
     }
 }
 
@@ -219,12 +189,7 @@ pub(super) fn play<G: Group>(
     rt: &impl Abort,
     ceremony: &mut Ceremony<'_, G>,
     script: &[Step],
-) -> Result<(), Fail>
-    requires { Kept G.meaning (state_of ceremony.old) }
-    ensures kept { Kept G.meaning (state_of ceremony.new) }
-    ensures lender { ceremony.new.area.ghost_name ≡ ceremony.old.area.ghost_name }
-{
-    let _of: PhantomData<G> = PhantomData;
+) -> Result<(), Fail> {
     for step in script {
         take_step(rt, ceremony, *step)?;
     }
@@ -239,12 +204,8 @@ pub(super) fn play_over<G: Group>(
     rest: &[Step],
 ) -> Result<(), Fail> {
     let mut ceremony = Ceremony::<G>::new(area);
-    let mut played = play(rt, &mut ceremony, first);
-    if let Ok(()) = played {
-        played = play(rt, &mut ceremony, rest);
-    }
-    ceremony.release();
-    played
+    play(rt, &mut ceremony, first)?;
+    play(rt, &mut ceremony, rest)
 }
 
 // Plays a script in two parts, over an area with room for six seats.

@@ -2,6 +2,7 @@
 use super::record::Record;
 use super::script::{Step, check_refused, play_in};
 use binary_polynomials::BinaryPolynomials;
+use protocol::phase::Phase;
 use protocol::state::SeatState;
 use readings::words::write_word;
 use residues::Residues;
@@ -44,7 +45,7 @@ const JUDGED: &[Step] = &[
         (SeatState::Absent, 0),
     ]),
     Step::Taken(Record::Close(3), 0),
-    Step::Phase(4),
+    Step::Phase(Phase::Exposing),
     Step::Seats(&[
         (SeatState::Qualified, 1),
         (SeatState::Out, 2),
@@ -83,7 +84,7 @@ const VOID: &[Step] = &[
     Step::Taken(Record::Answer(2, 1, 5, 1), 1),
     Step::Taken(Record::Answer(2, 3, 9, 3), 1),
     Step::Taken(Record::Close(3), 0),
-    Step::Phase(8),
+    Step::Phase(Phase::Void),
     Step::NoKey,
     Step::FewRows,
     Step::Seats(&[
@@ -110,7 +111,7 @@ const NOT_VOID: &[Step] = &[
     Step::Taken(Record::Close(2), 0),
     Step::Taken(Record::Answer(2, 3, 9, 3), 1),
     Step::Taken(Record::Close(3), 0),
-    Step::Phase(4),
+    Step::Phase(Phase::Exposing),
     Step::NoKey,
 ];
 
@@ -118,6 +119,25 @@ const NOT_VOID: &[Step] = &[
 fn dealers_judged(rt: HostRuntime) -> Result<(), Fail> {
     play_in::<Residues>(&rt, JUDGED, &[])?;
     play_in::<BinaryPolynomials>(&rt, JUDGED, &[])
+}
+
+// The scripts say phases by name; these are the names' numbers.
+#[test]
+fn phases_numbered(rt: HostRuntime) {
+    let phases = [
+        Phase::Unopened,
+        Phase::Dealing,
+        Phase::Complaining,
+        Phase::Answering,
+        Phase::Exposing,
+        Phase::Objecting,
+        Phase::Revealing,
+        Phase::Finished,
+        Phase::Void,
+    ];
+    for (number, phase) in (0..9).zip(phases) {
+        assert_eq!(rt; phase.number(), number);
+    }
 }
 
 #[test]
@@ -130,9 +150,7 @@ fn void_ceremony(rt: HostRuntime) -> Result<(), Fail> {
 // An output with less room than the word stays as it was.
 fn check_small(rt: &impl Abort, state: SeatState, out: &mut [u8]) -> Result<(), Fail> {
     check_refused(rt, write_word(state, out), 14, 0, 0)?;
-    for byte in out {
-        assert_eq!(rt; *byte, 0xFF);
-    }
+    assert!(rt; out.iter().all(|byte| *byte == 0xFF));
     Ok(())
 }
 
@@ -140,9 +158,8 @@ fn check_small(rt: &impl Abort, state: SeatState, out: &mut [u8]) -> Result<(), 
 fn check_word(rt: &impl Abort, state: SeatState, text: &[u8]) -> Result<(), Fail> {
     let mut out = [0xFF; 10];
     assert_eq!(rt; write_word(state, &mut out)?, text.len());
-    for k in 0..10usize {
-        assert_eq!(rt; out[k], text.get(k).copied().unwrap_or(0xFF), "{}", k);
-    }
+    assert!(rt; out.starts_with(text));
+    assert!(rt; out.iter().skip(text.len()).all(|byte| *byte == 0xFF));
     Ok(())
 }
 

@@ -1,9 +1,5 @@
 // A refusal changes nothing: two ceremonies are posted the same records, but for those that the first one refuses.
-ghost use Rattle.std.specs.Prelude.{◌≡◌, ◌≤◌};
-ghost use Rattle.board_index.specs.Kept.{Kept};
-ghost use Rattle.board.specs.State.{state_of};
-
-use super::record::{Record, write_record};
+use super::record::{Record, RecordBytes};
 use super::script::{Step, play};
 use binary_polynomials::BinaryPolynomials;
 use board::ceremony::Ceremony;
@@ -13,14 +9,15 @@ use protocol::row::SeatRow;
 use protocol::state::SeatState;
 use readings::seats::seat_list;
 use residues::Residues;
-use std::marker::PhantomData;
+use samples::numbers::Numbers;
+use std::array;
 use std::process::Abort;
 use std::test::Fail;
 
 const OPENED: &[Step] = &[Step::Taken(Record::Opening(3, 1), 0)];
 
 // A whole ceremony: dealer 2 is contested by Objections, dealer 3 for want of an Exposure.
-const RECORDS: &[Record] = &[
+const RECORDS: &[Record; 24] = &[
     Record::Deal(1, (2, 1), (1, 0)),
     Record::Deal(2, (3, 0), (2, 1)),
     Record::Deal(3, (1, 2), (2, 0)),
@@ -48,115 +45,97 @@ const RECORDS: &[Record] = &[
 ];
 
 // As a call, so that nothing about them goes into a proof.
-fn records() -> &'static [Record] {
+fn records() -> &'static [Record; 24] {
     RECORDS
 }
 
-// How often each refusal came, 0 for none, and how often a record found the ceremony in each phase.
+// How often each number came, as refusals and phases are told by numbers.
+#[derive(Drop)]
+struct Counts([u32; 16]);
+
+impl Counts {
+    fn add(&mut self, number: u8) {
+        let count = &mut self.0[number as usize % 16];
+        *count = count.wrapping_add(1);
+    }
+
+    // Each number from one on, below another, came.
+    fn check_all(&self, rt: &impl Abort, from: usize, end: usize) {
+        for (number, count) in self.0.iter().enumerate().take(end).skip(from) {
+            assert!(rt; *count > 0, "{}", number);
+        }
+    }
+}
+
+// The refusals, with 0 for none, and the phases in which a record found the ceremony.
 #[derive(Drop)]
 struct Seen {
-    refusals: [u32; 16],
-    phases: [u32; 16],
+    refusals: Counts,
+    phases: Counts,
 }
 
-fn count_one(counts: &mut [u32; 16], number: u8) {
-    let k = (number % 16) as usize;
-    counts[k] = counts[k].wrapping_add(1);
+// The higher digits of numbers.
+fn noise(seed: u32) -> [u8; 32] {
+    let mut numbers = Numbers::from_seed(seed);
+    array::from_fn(|_| (numbers.draw() / 16777216) as u8)
 }
 
-// Each number comes from the one before; the higher digits are used.
-fn next_number(n: u32) -> u32 {
-    n.wrapping_mul(1664525).wrapping_add(1013904223)
-}
-
-fn write_noise(start: u32, out: &mut [u8; 32]) {
-    let mut n = start;
-    for k in 0..32usize {
-        n = next_number(n);
-        out[k] = (n / 16777216) as u8;
-    }
-}
-
-// Writes a record of the ceremony, counted round.
-fn write_nth<G: Group>(n: u32, out: &mut [u8; 32]) -> usize
-    ensures { result ≤ 32 }
-{
-    match records().get((n % 24) as usize) {
-        Some(record) => write_record::<G>(*record, out),
-        None => 0,
-    }
+// A record of the ceremony, counted round.
+fn nth<G: Group>(n: u32) -> RecordBytes {
+    records()[n as usize % 24].bytes::<G>()
 }
 
 // Any bytes, a frame around any bytes, a record with other seats, a damaged record, or a record out of its turn.
-fn disturb<G: Group>(random: u32, out: &mut [u8; 32]) -> usize
-    ensures { result ≤ 32 }
-{
-    let n = next_number(random) / 256;
+// A number picks, since it is drawn: an enum would be made of it for this one match.
+fn disturbance<G: Group>(random: u32) -> RecordBytes {
+    let n = Numbers::from_seed(random).draw() / 256;
     let size = (n / 8 % 33) as usize;
     match random / 65536 % 5 {
-        0 => {
-            write_noise(n, out);
-            size
-        }
+        0 => RecordBytes::new(noise(n), size),
         1 => {
-            write_noise(n, out);
-            out[0] = size.saturating_sub(2) as u8;
-            out[1] = 0;
-            out[2] = (n % 10) as u8;
-            out[3] = 0;
-            size
+            let mut bytes = noise(n);
+            bytes[..4].copy_from_slice(&[size.saturating_sub(2) as u8, 0, (n % 10) as u8, 0]);
+            RecordBytes::new(bytes, size)
         }
         2 => {
-            let size = write_nth::<G>(n, out);
-            out[4] = (n / 32 % 5) as u8;
-            out[5] = (n / 256 % 5) as u8;
-            size
+            let mut record = nth::<G>(n);
+            record.bytes[4] = (n / 32 % 5) as u8;
+            record.bytes[5] = (n / 256 % 5) as u8;
+            record
         }
         3 => {
-            let size = write_nth::<G>(n, out);
-            let place = (n / 32 % 12) as usize;
-            out[place] = out[place] ^ (n / 512 % 256) as u8;
-            size
+            let mut record = nth::<G>(n);
+            record.bytes[(n / 32 % 12) as usize] ^= (n / 512 % 256) as u8;
+            record
         }
-        _ => write_nth::<G>(n, out),
+        _ => nth::<G>(n),
     }
 }
 
 // Three disturbances before each record of the ceremony.
-fn write_turn<G: Group>(turn: u32, random: u32, out: &mut [u8; 32]) -> usize
-    ensures { result ≤ 32 }
-{
+fn record_for<G: Group>(turn: u32, random: u32) -> RecordBytes {
     if turn % 4 == 3 {
-        write_nth::<G>(turn / 4, out)
+        nth::<G>(turn / 4)
     } else {
-        disturb::<G>(random, out)
+        disturbance::<G>(random)
     }
 }
 
-// How many equations are tested for a taken record.
+// How many equations are tested for a taken record, by its kind's number as it stands in the bytes.
 fn equations_of(bytes: &[u8]) -> u8 {
-    match bytes.get(2).copied() {
-        Some(4) | Some(7) => 1,
+    match bytes.get(2) {
+        Some(4 | 7) => 1,
         Some(6) => 2,
         _ => 0,
     }
 }
 
-// A refused record tells by its reason how many equations were tested: an Objection's up to 2, a Reveal's 1.
-fn check_reason(rt: &impl Abort, report: Report, bytes: &[u8]) -> Result<(), Fail> {
+// By numbers, which are what is told. A refused record tells by its reason how many equations were tested: an Objection's up to 2, a Reveal's 1.
+fn check_reason(rt: &impl Abort, report: Report, bytes: &[u8]) {
     match report.number {
-        9 => {
-            assert!(rt; report.reason == 1 || report.reason == 2);
-            Ok(())
-        },
-        10 => {
-            assert!(rt; 1 <= report.reason && report.reason <= equations_of(bytes));
-            Ok(())
-        },
-        _ => {
-            assert_eq!(rt; report.reason, 0);
-            Ok(())
-        },
+        9 => assert!(rt; report.reason == 1 || report.reason == 2),
+        10 => assert!(rt; 1 <= report.reason && report.reason <= equations_of(bytes)),
+        _ => assert_eq!(rt; report.reason, 0),
     }
 }
 
@@ -164,13 +143,10 @@ fn check_same<G: Group>(
     rt: &impl Abort,
     first: &Ceremony<'_, G>,
     second: &Ceremony<'_, G>,
-) -> Result<(), Fail>
-    requires first { Kept G.meaning (state_of first.now) }
-    requires second { Kept G.meaning (state_of second.now) }
-{
+) -> Result<(), Fail> {
     assert_eq!(rt; first.n(), second.n());
     assert_eq!(rt; first.t(), second.t());
-    assert_eq!(rt; first.phase().number(), second.phase().number());
+    assert_eq!(rt; first.phase(), second.phase());
     let row = SeatRow {
         state: SeatState::Absent,
         complaints: 77,
@@ -190,24 +166,19 @@ fn post_both<G: Group>(
     second: &mut Ceremony<'_, G>,
     bytes: &[u8],
     seen: &mut Seen,
-) -> Result<(), Fail>
-    requires first { Kept G.meaning (state_of first.old) }
-    requires second { Kept G.meaning (state_of second.old) }
-    ensures first { (Kept G.meaning (state_of first.new)) × (first.new.area.ghost_name ≡ first.old.area.ghost_name) }
-    ensures second { (Kept G.meaning (state_of second.new)) × (second.new.area.ghost_name ≡ second.old.area.ghost_name) }
-{
-    let _of: PhantomData<G> = PhantomData;
-    count_one(&mut seen.phases, first.phase().number());
+) -> Result<(), Fail> {
+    seen.phases.add(first.phase().number());
     match first.post(bytes) {
         Ok(equations) => {
-            count_one(&mut seen.refusals, 0);
+            seen.refusals.add(0);
             assert_eq!(rt; equations, equations_of(bytes));
             assert_eq!(rt; second.post(bytes)?, equations);
             Ok(())
         }
         Err(fault) => {
-            count_one(&mut seen.refusals, fault.report().number);
-            check_reason(rt, fault.report(), bytes)
+            seen.refusals.add(fault.report().number);
+            check_reason(rt, fault.report(), bytes);
+            Ok(())
         }
     }
 }
@@ -218,22 +189,13 @@ fn post_turns<G: Group>(
     second: &mut Ceremony<'_, G>,
     seed: u32,
     seen: &mut Seen,
-) -> Result<(), Fail>
-    requires first { Kept G.meaning (state_of first.old) }
-    requires second { Kept G.meaning (state_of second.old) }
-    ensures first { (Kept G.meaning (state_of first.new)) × (first.new.area.ghost_name ≡ first.old.area.ghost_name) }
-    ensures second { (Kept G.meaning (state_of second.new)) × (second.new.area.ghost_name ≡ second.old.area.ghost_name) }
-{
-    let _of: PhantomData<G> = PhantomData;
+) -> Result<(), Fail> {
     play(rt, first, OPENED)?;
     play(rt, second, OPENED)?;
-    let mut random = seed;
-    for turn in 0..96u32 {
-        let mut bytes = [0; 32];
-        let size = write_turn::<G>(turn, random, &mut bytes);
-        post_both(rt, first, second, &bytes[0..size], seen)?;
+    for (turn, random) in (0..96).zip(Numbers::starting_at(seed)) {
+        let record = record_for::<G>(turn, random);
+        post_both(rt, first, second, record.as_slice(), seen)?;
         check_same(rt, first, second)?;
-        random = next_number(random);
     }
     Ok(())
 }
@@ -244,28 +206,23 @@ fn check_twins<G: Group>(rt: &impl Abort, seed: u32, seen: &mut Seen) -> Result<
     let mut other = [0xA5; 450];
     let mut first = Ceremony::<G>::new(&mut area);
     let mut second = Ceremony::<G>::new(&mut other);
-    let posted = post_turns(rt, &mut first, &mut second, seed, seen);
+    post_turns(rt, &mut first, &mut second, seed, seen)?;
     first.release();
     second.release();
-    posted?;
     assert_eq!(rt; area, other);
     Ok(())
 }
 
 fn check_seeds<G: Group>(rt: &impl Abort) -> Result<(), Fail> {
     let mut seen = Seen {
-        refusals: [0; 16],
-        phases: [0; 16],
+        refusals: Counts([0; 16]),
+        phases: Counts([0; 16]),
     };
     for seed in 0..200u32 {
         check_twins::<G>(rt, seed.wrapping_mul(2654435761), &mut seen)?;
     }
-    for number in 0..12usize {
-        assert!(rt; seen.refusals[number] > 0, "{}", number);
-    }
-    for phase in 1..9usize {
-        assert!(rt; seen.phases[phase] > 0, "{}", phase);
-    }
+    seen.refusals.check_all(rt, 0, 12);
+    seen.phases.check_all(rt, 1, 9);
     Ok(())
 }
 

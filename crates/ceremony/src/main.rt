@@ -2,7 +2,7 @@
 #![tactic(auto)]
 
 use binary_polynomials::{BinaryPolynomials, product_is_remainder};
-use dealing::deal::{draw_up_deal, draw_up_share};
+use dealing::deal::Coefficients;
 use dealing::fault::DealingFault;
 use dealing::trial::{dealt_shares_open, test_share};
 use figures::figures_hold;
@@ -21,30 +21,27 @@ use sharing_laws::{
     logarithms_interpolate, logarithms_unique, openings_differ, openings_interpolate,
     values_interpolate,
 };
-use std::io;
+use std::{fmt, io};
 
-// The dealer's seat, the threshold, how many seats there are, and the codes of a_0 .. a_t, b_0 .. b_t.
+// The dealer's seat, how many seats there are, and the dealer's coefficients.
 #[derive(Drop)]
 struct Dealing<'a> {
     dealer: u8,
-    t: u8,
     seats: u8,
-    coefficients: &'a [u8],
+    coefficients: Coefficients<'a>,
 }
 
-fn print_bytes(rt: HostRuntime, what: &str, bytes: &[u8]) -> io::Result<()> {
-    print!(rt; "{what}:")?;
-    for b in bytes {
-        print!(rt; " {b:02x}")?;
+// Bytes in hexadecimal, each behind a space.
+#[derive(Clone, Copy)]
+struct Hex<'a>(&'a [u8]);
+
+impl fmt::Display for Hex<'_> {
+    fn fmt<W: fmt::Write>(&self, f: &mut fmt::Formatter<W>) -> fmt::Result {
+        for b in self.0 {
+            write!(f, " {b:02x}")?;
+        }
+        Ok(())
     }
-    println!(rt; "")
-}
-
-fn print_fault(rt: HostRuntime, what: &str, fault: DealingFault) -> io::Result<()> {
-    let number = fault.number();
-    let place = fault.place();
-    let reason = fault.reason();
-    println!(rt; "{what}: refused with {number} at {place}, reason {reason}")
 }
 
 // Tests one share, read from its bytes, against the commitments, read from theirs.
@@ -68,7 +65,7 @@ fn print_test<G: Group>(
                 "  seat {seat}: g^s h^s' = {committed}, commitments give {value}: {verdict}"
             )
         }
-        Err(fault) => print_fault(rt, "  the test", fault),
+        Err(fault) => println!(rt; "  the test: {fault}"),
     }
 }
 
@@ -79,57 +76,63 @@ fn deal_to_seat<G: Group>(
     commitments: &[u8],
     seat: u8,
 ) -> io::Result<()> {
+    // Fixed arrays here and below: the outputs are lent, and their sizes are those of the largest record and share.
     let mut share = [0u8; 8];
-    match draw_up_share::<G>(dealing.t, dealing.coefficients, seat, &mut share) {
+    let coefficients = dealing.coefficients;
+    match coefficients.draw_up_share::<G>(seat, &mut share) {
         Ok(length) => {
+            // Never so; the test is for the slices below.
             if length > 8 {
                 return Ok(());
             }
-            print_bytes(rt, "  share", &share[0..length])?;
-            print_test::<G>(rt, dealing.t, commitments, &share[0..length], seat)?;
+            println!(rt; "  share:{}", Hex(&share[0..length]))?;
+            print_test::<G>(rt, coefficients.t, commitments, &share[0..length], seat)?;
             share[0] ^= 1;
-            print_bytes(rt, "  share with a bit changed", &share[0..length])?;
-            print_test::<G>(rt, dealing.t, commitments, &share[0..length], seat)
+            println!(rt; "  share with a bit changed:{}", Hex(&share[0..length]))?;
+            print_test::<G>(rt, coefficients.t, commitments, &share[0..length], seat)
         }
-        Err(fault) => print_fault(rt, "  the share", fault),
+        Err(fault) => println!(rt; "  the share: {fault}"),
     }
 }
 
 // The whole dealing: the Deal, then a share for each seat.
 fn deal_in<G: Group>(rt: HostRuntime, dealing: &Dealing) -> io::Result<()> {
-    let number = G::group_number();
+    let number = G::NUMBER;
     let g = G::element_number(G::g());
     let h = G::element_number(G::h());
     println!(rt; "group {number}: g = {g}, h = {h}")?;
-    print_bytes(rt, "coefficients", dealing.coefficients)?;
+    let coefficients = dealing.coefficients;
+    println!(rt; "coefficients:{}", Hex(coefficients.codes))?;
     let mut record = [0u8; 128];
-    match draw_up_deal::<G>(dealing.dealer, dealing.t, dealing.coefficients, &mut record) {
+    match coefficients.draw_up_deal::<G>(dealing.dealer, &mut record) {
         Ok(length) => {
+            // Never so; the test is for the slices below.
             if length < 5 || length > 128 {
                 return Ok(());
             }
-            print_bytes(rt, "Deal", &record[0..length])?;
-            for seat in 1..dealing.seats.saturating_add(1) {
+            println!(rt; "Deal:{}", Hex(&record[0..length]))?;
+            for seat in 1..=dealing.seats {
                 deal_to_seat::<G>(rt, dealing, &record[5..length], seat)?;
             }
             Ok(())
         }
-        Err(fault) => print_fault(rt, "the Deal", fault),
+        Err(fault) => println!(rt; "the Deal: {fault}"),
     }
 }
 
 // Draws up the shares for some seats, one after another.
 fn fill_shares<G: Group>(
-    dealing: &Dealing,
+    coefficients: Coefficients,
     seats: &[u8],
     shares: &mut [u8],
 ) -> Result<(), DealingFault> {
+    // The place moves by the length that each call tells.
     let mut place = 0;
     for seat in seats {
         if place > shares.len() {
             return Err(DealingFault::Output);
         }
-        place += draw_up_share::<G>(dealing.t, dealing.coefficients, *seat, &mut shares[place..])?;
+        place += coefficients.draw_up_share::<G>(*seat, &mut shares[place..])?;
     }
     Ok(())
 }
@@ -137,25 +140,25 @@ fn fill_shares<G: Group>(
 // Recovers the dealer's secret a_0, with b_0, from the shares of t + 1 seats, which are read from their bytes.
 fn recover<G: Group>(rt: HostRuntime, dealing: &Dealing, seats: &[u8]) -> io::Result<()> {
     let mut shares = [0u8; 128];
-    if let Err(fault) = fill_shares::<G>(dealing, seats, &mut shares) {
-        return print_fault(rt, "the shares", fault);
+    if let Err(fault) = fill_shares::<G>(dealing.coefficients, seats, &mut shares) {
+        return println!(rt; "the shares: {fault}");
     }
     if seats.len() > 16 || !are_different_seats(seats) {
         return println!(rt; "these are not up to 16 different seats");
     }
-    print_bytes(rt, "from seats", seats)?;
+    println!(rt; "from seats:{}", Hex(seats))?;
     match interpolate::<G, Share<G>>(seats, &shares, 0) {
         Ok(opening) => {
             let secret = G::scalar_number(opening.left.value);
             let blinding = G::scalar_number(opening.right.value);
             println!(rt; "recovered: a_0 = {secret}, b_0 = {blinding}")
         }
-        Err(fault) => print_fault(rt, "the shares", fault.into()),
+        Err(fault) => println!(rt; "the shares: {}", DealingFault::from(fault)),
     }
 }
 
-fn main(rt: HostRuntime) -> io::Result<()> {
-    // These calls do nothing: their contracts are the theorems.
+// These calls do nothing: their contracts are the theorems.
+fn call_theorems() {
     codes_read_back();
     powers_obey_laws();
     product_is_remainder();
@@ -173,29 +176,39 @@ fn main(rt: HostRuntime) -> io::Result<()> {
     guarantee_holds();
     guarantee_is_met();
     figures_hold();
+}
+
+fn main(rt: HostRuntime) -> io::Result<()> {
+    call_theorems();
     let first = Dealing {
         dealer: 1,
-        t: 1,
         seats: 3,
-        coefficients: &[2, 0, 1, 0, 1, 0, 0, 0],
+        coefficients: Coefficients {
+            t: 1,
+            codes: &[2, 0, 1, 0, 1, 0, 0, 0],
+        },
     };
     deal_in::<Residues>(rt, &first)?;
     recover::<Residues>(rt, &first, &[1, 3])?;
     let second = Dealing {
         dealer: 2,
-        t: 2,
         seats: 5,
-        coefficients: &[
-            0x39, 0x30, 0, 0xfe, 0xff, 1, 7, 0, 0, 0x10, 0x27, 0, 1, 0, 0, 0xfe, 0xff, 1,
-        ],
+        coefficients: Coefficients {
+            t: 2,
+            codes: &[
+                0x39, 0x30, 0, 0xfe, 0xff, 1, 7, 0, 0, 0x10, 0x27, 0, 1, 0, 0, 0xfe, 0xff, 1,
+            ],
+        },
     };
     deal_in::<BinaryPolynomials>(rt, &second)?;
     recover::<BinaryPolynomials>(rt, &second, &[5, 2, 4])?;
     let refused = Dealing {
         dealer: 1,
-        t: 0,
         seats: 1,
-        coefficients: &[0xfb, 3, 0, 0],
+        coefficients: Coefficients {
+            t: 0,
+            codes: &[0xfb, 3, 0, 0],
+        },
     };
     deal_in::<Residues>(rt, &refused)
 }

@@ -1,5 +1,5 @@
 -- What is known where coefficients pass, and what a call answers then.
-use Rattle.std.proofs.Common.{◌≡◌, ℕ, ◌*◌, ◌<◌, ◌≤◌, Bool, true, false, eqb, leb, List, length, Some, None, Ok, Err, Option, Result, sym, refl, ap, ◌∙◌, subst, arith}
+use Rattle.std.proofs.Common.{◌≡◌, ℕ, ◌*◌, ◌<◌, ◌≤◌, Bool, true, false, eqb, leb, List, length, Some, None, Ok, Err, Option, Result, sym, refl, ap, ◌∙◌, subst}
 use lib.Seq.{paste}
 use Rattle.std.proofs.lemmas.Bool.{eqb-true, eq-eqb, le-leb, lt-leb, cond-true, cond-false}
 use Rattle.group.specs.declared.fault.GroupFault.{GroupFault}
@@ -12,9 +12,9 @@ use Rattle.dealing.specs.Refusals.{unless, where_taken, where_passed, drawn_up, 
 
 test_passed : (b c : Bool) (taken : Option GroupFault) → unless b Length (unless c NoSeat (where_taken taken (Ok tt))) ≡ Ok (tt {0}) → (b ≡ true) × (c ≡ true) × (taken ≡ None)
 test_passed true true None e = (refl, refl, refl)
-test_passed true true (Some fault) e = let z : ◌≡◌ {A = ℕ} 0 1 = cc in absurd (omega arith)
-test_passed true false taken e = let z : ◌≡◌ {A = ℕ} 0 1 = cc in absurd (omega arith)
-test_passed false c taken e = let z : ◌≡◌ {A = ℕ} 0 1 = cc in absurd (omega arith)
+test_passed true true (Some fault) e = absurd (cc)
+test_passed true false taken e = absurd (cc)
+test_passed false c taken e = absurd (cc)
 
 module _ (m : Meaning) (coefficients : List ℕ) (count seat : ℕ) (e : where_passed m coefficients count seat (Ok tt) ≡ Ok (tt {0})) where
   pub passed_length : length coefficients ≡ 2 * (count * m.s)

@@ -1,5 +1,5 @@
 -- What each call of a dealing answers. Definitions.
-use Rattle.std.specs.Prelude.{◌≡◌, ℕ, ◌*◌, Bool, cond, ◌&&◌, List, ◌++◌, length, Some, None, Ok, Err, Option, Result, ◌==◌, nat_le}
+use Rattle.std.specs.Prelude.{◌≡◌, ℕ, ◌*◌, Bool, cond, ◌&&◌, List, ◌++◌, length, Some, None, Ok, Err, Option, Result, ◌==◌, nat_le, codes, decimal}
 use Rattle.std.proofs.Math.Seq.{paste}
 use Rattle.group.specs.declared.fault.GroupFault.{GroupFault}
 use Rattle.group.specs.Code.{code, code_at}
@@ -35,6 +35,11 @@ reason_of Length = 0
 reason_of NoSeat = 0
 reason_of (Code fault) = reading.reason_of fault
 reason_of Output = 0
+
+-- the text of a refusal: its number, its place and its reason
+abbrev pub refusal_text : DealingFault → List ℕ
+refusal_text fault =
+    codes "refused with " ++ (decimal (number_of fault) ++ (codes " at " ++ (decimal (place_of fault) ++ (codes ", reason " ++ decimal (reason_of fault)))))
 
 -- an answer that stands where a test holds
 abbrev pub unless : {A : Type 0} → Bool → DealingFault → Result A DealingFault → Result A DealingFault

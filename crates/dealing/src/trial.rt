@@ -21,7 +21,7 @@ pub fn test_share<G: Group>(
     ensures { result ≡ sides_of G.meaning (t + 1) commitments.now share.now seat }
 {
     let count = t as usize + 1;
-    if commitments.len() != count * G::width() || share.len() != 2 * G::scalar_width() {
+    if commitments.len() != count * G::W || share.len() != 2 * G::S {
         return Err(DealingFault::Length);
     }
     if seat < 1 || seat > 32 {

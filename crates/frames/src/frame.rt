@@ -1,6 +1,6 @@
 // Reading the bytes of a record: frame, kind, and length for the kind.
-ghost use Rattle.std.specs.Prelude.{◌≡◌, ◌+◌, ◌*◌, ◌≤◌, true, length};
-ghost use Rattle.protocol.specs.Record.{layout_of, length_of, kind_field};
+ghost use Rattle.std.specs.Prelude.{◌≡◌, ◌+◌, ◌*◌, length};
+ghost use Rattle.protocol.specs.Record.{layout_of, length_of};
 ghost use Rattle.frames.specs.Reading.{is_posted as postable, ReadsFrame, ReadsKind};
 
 use group::codes::read_code;
@@ -8,7 +8,7 @@ use group::group::Group;
 use protocol::fault::RecordFault;
 use protocol::kind::Kind;
 
-// The number of the kind, where the bytes are one frame.
+// The number of the kind, where the bytes are one frame. A number, since which kinds may stand there is the caller's to test.
 pub fn read_frame(bytes: &[u8]) -> Result<u32, RecordFault>
     ensures { ReadsFrame bytes.now result }
 {
@@ -27,9 +27,9 @@ pub fn length_for<G: Group>(kind: Kind, t: u8) -> usize
     ensures { result ≡ length_of G.meaning t (layout_of kind) }
 {
     match kind {
-        Kind::Deal | Kind::Exposure => 3 + (t as usize + 1) * G::width(),
+        Kind::Deal | Kind::Exposure => 3 + (t as usize + 1) * G::W,
         Kind::Complaint => 4,
-        Kind::Answer | Kind::Objection | Kind::Reveal => 4 + 2 * G::scalar_width(),
+        Kind::Answer | Kind::Objection | Kind::Reveal => 4 + 2 * G::S,
         Kind::Opening | Kind::Close | Kind::Letter | Kind::Sheet => 3,
     }
 }
@@ -38,21 +38,17 @@ pub fn length_for<G: Group>(kind: Kind, t: u8) -> usize
 pub fn is_posted(kind: Kind) -> bool
     ensures { result ≡ postable kind }
 {
-    let number = kind.number();
-    2 <= number && number <= 8
+    !matches!(kind, Kind::Opening | Kind::Letter | Kind::Sheet)
 }
 
 // The kind of a record that can be posted, where its length is right.
 pub fn read_kind<G: Group>(bytes: &[u8], t: u8) -> Result<Kind, RecordFault>
     ensures { ReadsKind G.meaning t bytes.now result }
 {
-    let number = read_frame(bytes)?;
-    let Some(kind) = Kind::with_number(number) else {
-        return Err(RecordFault::Kind { place: 2 });
+    let kind = match Kind::try_from(read_frame(bytes)?) {
+        Ok(kind) if is_posted(kind) => kind,
+        _ => return Err(RecordFault::Kind { place: 2 }),
     };
-    if !is_posted(kind) {
-        return Err(RecordFault::Kind { place: 2 });
-    }
     if bytes.len() != 2 + length_for::<G>(kind, t) {
         return Err(RecordFault::Length { place: 0 });
     }

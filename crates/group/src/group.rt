@@ -14,7 +14,14 @@ pub trait Group {
     // The width of a scalar code in bytes.
     const S: usize;
 
-    type Element: Copy;
+    // The constants as clauses name them.
+    ghost NUMBER: { ℕ };
+
+    ghost W: { ℕ };
+
+    ghost S: { ℕ };
+
+    type Element: Copy + PartialEq;
 
     type Scalar: Copy;
 
@@ -30,16 +37,7 @@ pub trait Group {
 
     ghost below: { (x : Self.Scalar) → scalar_of x < meaning.q };
 
-    // The constants as calls, since a contract cannot name a constant.
-    fn group_number() -> u16
-        ensures { result ≡ meaning.number };
-
-    fn width() -> usize
-        ensures { result ≡ meaning.w };
-
-    fn scalar_width() -> usize
-        ensures { result ≡ meaning.s };
-
+    // Functions and no operators: what each gives is one clause about numbers.
     fn unit() -> Self::Element
         ensures { number_of result ≡ meaning.unit };
 
@@ -51,9 +49,6 @@ pub trait Group {
 
     fn product(a: Self::Element, b: Self::Element) -> Self::Element
         ensures { number_of result ≡ meaning.product (number_of a) (number_of b) };
-
-    fn equal(a: Self::Element, b: Self::Element) -> bool
-        ensures { result ≡ (number_of a == number_of b) };
 
     fn element_number(a: Self::Element) -> u32
         ensures { result ≡ number_of a };
@@ -87,4 +82,13 @@ pub trait Group {
 
     fn invert(x: Self::Scalar) -> Option<Self::Scalar>
         ensures { Inverts meaning.q scalar_of x result };
+
+    ghost number_is: { NUMBER ≡ meaning.number };
+
+    ghost width_is: { W ≡ meaning.w };
+
+    ghost scalar_width_is: { S ≡ meaning.s };
+
+    // Two elements are equal exactly if their numbers are.
+    ghost equal: { (a b : Self.Element) → Self.Element.eq a b ≡ (number_of a == number_of b) };
 }

@@ -2,6 +2,8 @@
 ghost use Rattle.std.specs.Prelude.{◌≡◌, ◌+◌, ◌-◌, ◌*◌, ◌%◌, ◌<◌, Some, None};
 ghost use Rattle.group.specs.Meaning.{Prime};
 
+use std::ops::{Add, Mul, Neg};
+
 #[derive(Clone, Copy)]
 pub struct Modular<const Q: u32> {
     value: u32,
@@ -29,32 +31,6 @@ impl<const Q: u32> Modular<Q> {
         Modular { value: n % Q }
     }
 
-    pub fn add(self, other: Modular<Q>) -> Modular<Q>
-        ensures { result.value ≡ (self.entry.value + other.entry.value) % Q }
-    {
-        let sum = self.value as u64 + other.value as u64;
-        Modular {
-            value: (sum % Q as u64) as u32,
-        }
-    }
-
-    pub fn multiply(self, other: Modular<Q>) -> Modular<Q>
-        ensures { result.value ≡ (self.entry.value * other.entry.value) % Q }
-    {
-        let product = self.value as u64 * other.value as u64;
-        Modular {
-            value: (product % Q as u64) as u32,
-        }
-    }
-
-    pub fn negate(self) -> Modular<Q>
-        ensures { result.value ≡ (Q - self.entry.value) % Q }
-    {
-        Modular {
-            value: (Q - self.value) % Q,
-        }
-    }
-
     // Only 0 has no inverse. Each turn keeps inverse·self = rest modulo Q, and rest falls to 1.
     pub fn inverse(self) -> Option<Modular<Q>>
         requires { Prime Q }
@@ -66,9 +42,47 @@ impl<const Q: u32> Modular<Q> {
         let mut inverse = Modular::<Q>::new(1);
         let mut rest = self.value;
         while rest > 1 {
-            inverse = inverse.multiply(Modular::<Q>::new(Q - Q / rest));
+            inverse = inverse * Modular::<Q>::new(Q - Q / rest);
             rest = Q % rest;
         }
         Some(inverse)
+    }
+}
+
+impl<const Q: u32> Add for Modular<Q> {
+    type Output = Modular<Q>;
+
+    ghost add_gives = { λ x y sum. sum.value ≡ (x.value + y.value) % Q };
+
+    fn add(self, other: Modular<Q>) -> Modular<Q> {
+        let sum = self.value as u64 + other.value as u64;
+        Modular {
+            value: (sum % Q as u64) as u32,
+        }
+    }
+}
+
+impl<const Q: u32> Mul for Modular<Q> {
+    type Output = Modular<Q>;
+
+    ghost mul_gives = { λ x y product. product.value ≡ (x.value * y.value) % Q };
+
+    fn mul(self, other: Modular<Q>) -> Modular<Q> {
+        let product = self.value as u64 * other.value as u64;
+        Modular {
+            value: (product % Q as u64) as u32,
+        }
+    }
+}
+
+impl<const Q: u32> Neg for Modular<Q> {
+    type Output = Modular<Q>;
+
+    ghost neg_gives = { λ x negative. negative.value ≡ (Q - x.value) % Q };
+
+    fn neg(self) -> Modular<Q> {
+        Modular {
+            value: (Q - self.value) % Q,
+        }
     }
 }

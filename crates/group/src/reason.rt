@@ -5,6 +5,7 @@ ghost use Rattle.group.specs.Reading.{reason_of, place_of};
 use crate::fault::GroupFault;
 
 impl GroupFault {
+    // A number, as the table of refusals has it.
     pub fn reason(self) -> u8
         ensures { result ≡ reason_of self }
     {

@@ -1,5 +1,5 @@
 -- Entries of the board, and how many records start a phase, when one more record is taken.
-use Rattle.std.proofs.Common.{◌≡◌, ℕ, suc, ◌≤◌, Bool, true, false, cond, ◌&&◌, ◌||◌, eqb, List, [], ◌∷◌, ◌++◌, Some, None, Option, sym, refl, ap, ◌∙◌, ap₂, arith}
+use Rattle.std.proofs.Common.{◌≡◌, ℕ, suc, ◌<◌, ◌≤◌, Bool, true, false, cond, ◌&&◌, ◌||◌, eqb, List, [], ◌∷◌, ◌++◌, Some, None, Option, sym, refl, ap, ◌∙◌, ap₂, arith}
 use Rattle.std.proofs.lemmas.Bool.{and_parts, and_left, or_right, or_from, eqb-true, eq-eqb, ne_eqb}
 use Rattle.protocol.specs.declared.kind.Kind.{Kind}
 use Rattle.protocol.specs.declared.kind.Kind.TheVariants as kinds
@@ -39,6 +39,19 @@ kind_number_lem n k e =
     one_of n kinds.Opening k _ (one_of n kinds.Deal k _ (one_of n kinds.Complaint k _ (one_of n kinds.Answer k _ (one_of n kinds.Exposure k _
     (one_of n kinds.Objection k _ (one_of n kinds.Reveal k _ (one_of n kinds.Close k _ (one_of n kinds.Letter k _ (one_of n kinds.Sheet k None
     (λ z. none_some k z)))))))))) e
+
+-- a number fits the two bytes of a frame
+pub kind_small : (kind : Kind) → kind_number kind < 65536
+kind_small kinds.Opening = omega arith
+kind_small kinds.Deal = omega arith
+kind_small kinds.Complaint = omega arith
+kind_small kinds.Answer = omega arith
+kind_small kinds.Exposure = omega arith
+kind_small kinds.Objection = omega arith
+kind_small kinds.Reveal = omega arith
+kind_small kinds.Close = omega arith
+kind_small kinds.Letter = omega arith
+kind_small kinds.Sheet = omega arith
 
 -- kinds 2 to 7, which a seat posts
 pub record Middle (k : Kind) : Type 0 where

@@ -8,7 +8,7 @@ use Rattle.protocol.specs.Refusals.{is_framed}
 use Rattle.protocol.specs.ReadBack.{Bytes}
 use Rattle.protocol.proofs.Codes.{code_back}
 use Rattle.protocol.proofs.CodesWritten.{code_written}
-use Rattle.protocol.proofs.KindNumbers.{kind_back, kind_small, number_of}
+use Rattle.protocol.proofs.Entries.{number_kind, kind_number_lem, kind_small}
 
 pub framed_length : (kind : Kind) (body : List ℕ) → length (framed kind body) ≡ 4 + length body
 unfolding code
@@ -37,7 +37,7 @@ frame_back kind body small =
       framed = and_from (leb 4 (length bytes)) (leb 2 (length_field bytes) && eqb (2 + length_field bytes) (length bytes))
           (le-leb 4 (length bytes) (omega arith))
           (and_from (leb 2 (length_field bytes)) (eqb (2 + length_field bytes) (length bytes)) (le-leb 2 (length_field bytes) (omega arith)) (eq-eqb (2 + length_field bytes) (length bytes) (omega arith)));
-      kind = ap kind_with number ∙ kind_back kind;
+      kind = ap kind_with number ∙ number_kind kind;
       long = long;
       body = refl;
     }
@@ -55,7 +55,7 @@ frame_written kind bytes each e known =
     let long = framed_long bytes e in
     let rest = length-drop 4 bytes in
     let size : 2 + length (drop 4 bytes) ≡ length_field bytes = omega arith in
-    let number = sym (number_of (kind_field bytes) kind known) in
+    let number = sym (kind_number_lem (kind_field bytes) kind known) in
     ap₂ (λ (n k : ℕ). code 2 n ++ (code 2 k ++ drop 4 bytes)) size number
     ∙ ap (λ (xs : List ℕ). code 2 (length_field bytes) ++ xs) (sym (code_written 2 bytes 2 each (omega arith)))
     ∙ sym (code_written 2 bytes 0 each (omega arith))

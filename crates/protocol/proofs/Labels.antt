@@ -2,12 +2,16 @@
 use Rattle.std.proofs.Common.{◌≡◌, ℕ, zero, suc, ◌+◌, ◌*◌, ◌^◌, ◌<◌, List, [], ◌∷◌, ◌++◌, length, get_or, take, drop, replicate, sym, refl, ap, ◌∙◌, ap₂, append_assoc, arith, length-append, take_at, get_or-append-add, drop_at}
 use Rattle.std.specs.List.{AllByRecursion}
 use Rattle.group.specs.Code.{code, code_at}
+use Rattle.group.specs.CodeLaws.{code_length}
 use Rattle.group.specs.Meaning.{Meaning, Lawful}
 use Rattle.sharing.specs.Codes.{decoded_from}
+use Rattle.sharing.specs.LinearLaws.{join}
 use Rattle.protocol.specs.Custodian.{Letter, write_letter, read_letter, Sheet, pair_codes, write_sheet}
 use Rattle.protocol.specs.Recovery.{sheet_at, sheet_size}
 use Rattle.protocol.specs.ReadBack.{SheetFits, SheetsReadBack, LettersReadBack}
-use Rattle.protocol.proofs.SheetBytes.{code_behind, length_code, SheetReads, SheetSmall}
+use Rattle.protocol.proofs.Letters.{same_letter}
+use Rattle.protocol.proofs.Sheets.{same_sheet}
+use Rattle.protocol.proofs.SheetBytes.{code_behind, SheetReads, SheetSmall}
 
 zeros : (n : ℕ) → AllByRecursion (λ x. x < 256) (replicate n 0)
 zeros zero = tt
@@ -23,7 +27,7 @@ front before n kind label = before ++ (code 2 n ++ (code 2 kind ++ label))
 pub front_length : (before : List ℕ) (n kind : ℕ) (label : List ℕ) → length label ≡ 16 → length (front before n kind label) ≡ length before + 20
 front_length before n kind label e =
     length-append before (code 2 n ++ (code 2 kind ++ label))
-    ∙ ap (λ (z : ℕ). length before + z) (length-append (code 2 n) (code 2 kind ++ label) ∙ ap₂ ◌+◌ (length_code 2 n) (length-append (code 2 kind) label ∙ ap₂ ◌+◌ (length_code 2 kind) e))
+    ∙ ap (λ (z : ℕ). length before + z) (length-append (code 2 n) (code 2 kind ++ label) ∙ ap₂ ◌+◌ (code_length 2 n) (length-append (code 2 kind) label ∙ ap₂ ◌+◌ (code_length 2 kind) e))
 
 pub front_all : (before : List ℕ) (n kind : ℕ) (label rest after : List ℕ)
     → before ++ ((code 2 n ++ (code 2 kind ++ (label ++ rest))) ++ after) ≡ front before n kind label ++ (rest ++ after)
@@ -33,7 +37,7 @@ pub label_in : (before : List ℕ) (n kind : ℕ) (label rest : List ℕ) (p : �
 label_in before n kind label rest p e at =
     let head : List ℕ = before ++ (code 2 n ++ code 2 kind) in
     let long : length head ≡ p =
-    length-append before (code 2 n ++ code 2 kind) ∙ ap (λ (z : ℕ). length before + z) (length-append (code 2 n) (code 2 kind) ∙ ap₂ ◌+◌ (length_code 2 n) (length_code 2 kind)) ∙ sym at in
+    length-append before (code 2 n ++ code 2 kind) ∙ ap (λ (z : ℕ). length before + z) (length-append (code 2 n) (code 2 kind) ∙ ap₂ ◌+◌ (code_length 2 n) (code_length 2 kind)) ∙ sym at in
     let same : front before n kind label ++ rest ≡ head ++ (label ++ rest) = simp append_assoc in
     ap (λ (z : List ℕ). take 16 (drop p z)) same ∙ ap (take 16) (drop_at head (label ++ rest) p long) ∙ take_at label rest 16 e
 
@@ -45,14 +49,9 @@ pairs_behind m ahead rest p k zero e = refl
 pairs_behind m ahead rest p k (suc n) e =
     let one : code_at (ahead ++ rest) m.s p ≡ code_at rest m.s k = code_behind ahead rest m.s p k e in
     let two : code_at (ahead ++ rest) m.s (p + m.s) ≡ code_at rest m.s (k + m.s) = code_behind ahead rest m.s (p + m.s) (k + m.s) (omega arith) in
-    let both : ◌≡◌ {A = ℕ × ℕ} (code_at (ahead ++ rest) m.s p, code_at (ahead ++ rest) m.s (p + m.s)) (code_at rest m.s k, code_at rest m.s (k + m.s)) = ap₂ (λ (x y : ℕ). (x, y)) one two in
-    ap₂ (λ (x : ℕ × ℕ) (xs : List (ℕ × ℕ)). x ∷ xs) both (pairs_behind m ahead rest (p + 2 * m.s) (k + 2 * m.s) n (omega arith))
+    ap₂ (λ (x : ℕ × ℕ) (xs : List (ℕ × ℕ)). x ∷ xs) (join one two) (pairs_behind m ahead rest (p + 2 * m.s) (k + 2 * m.s) n (omega arith))
 
 -- Sheets.
-
-pub sheet_is : (l l' : List ℕ) (a a' : ℕ) (p p' : List (ℕ × ℕ)) → l ≡ l' → a ≡ a' → p ≡ p'
-    → ◌≡◌ {A = Sheet} (record { label = l; seat = a; shares = p }) (record { label = l'; seat = a'; shares = p' })
-sheet_is l l' a a' p p' e f g = cc
 
 pub sheet_reads : (m : Meaning) → Lawful m → SheetsReadBack → (s : Sheet) → SheetSmall m s → SheetReads m s
 sheet_reads m laws back s small = record { size = size; reads = reads }
@@ -77,8 +76,8 @@ sheet_reads m laws back s small = record { size = size; reads = reads }
 
     long : (label : List ℕ) → length label ≡ 16 → length (code 2 n ++ (code 2 17 ++ (label ++ body))) ≡ 20 + length body
     long label e =
-        length-append (code 2 n) (code 2 17 ++ (label ++ body)) ∙ ap₂ ◌+◌ (length_code 2 n) (length-append (code 2 17) (label ++ body)
-        ∙ ap₂ ◌+◌ (length_code 2 17) (length-append label body ∙ ap (λ (z : ℕ). z + length body) e)) ∙ omega arith
+        length-append (code 2 n) (code 2 17 ++ (label ++ body)) ∙ ap₂ ◌+◌ (code_length 2 n) (length-append (code 2 17) (label ++ body)
+        ∙ ap₂ ◌+◌ (code_length 2 17) (length-append label body ∙ ap (λ (z : ℕ). z + length body) e)) ∙ omega arith
 
     size : length (write_sheet m s) ≡ sheet_size m (length s.shares)
     size = ap length written ∙ long s.label small.label ∙ sym (long blank refl) ∙ (back m laws plain fits [] []).0
@@ -99,16 +98,12 @@ sheet_reads m laws back s small = record { size = size; reads = reads }
         let at : length before + 20 ≡ length F + 0 = omega arith in
         let at₀ : length before + 20 ≡ length F₀ + 0 = omega arith in
         ap (λ (z : List ℕ). sheet_at m k z (length before)) all
-        ∙ sheet_is _ _ _ _ _ _
+        ∙ same_sheet s
         (label_in before n 17 s.label rest (length before + 4) small.label refl)
         (ap (λ (z : ℕ). get_or (F ++ rest) z 0) at ∙ get_or-append-add F rest 0 0 ∙ sym (ap (λ (z : ℕ). get_or (F₀ ++ rest) z 0) at₀ ∙ get_or-append-add F₀ rest 0 0) ∙ seat₀)
         (pairs_behind m F rest (length before + 21) 1 k (omega arith) ∙ sym (pairs_behind m F₀ rest (length before + 21) 1 k (omega arith)) ∙ shares₀)
 
 -- Letters.
-
-pub letter_is : (l l' : List ℕ) (a a' c c' x x' y y' : ℕ) → l ≡ l' → a ≡ a' → c ≡ c' → x ≡ x' → y ≡ y'
-    → ◌≡◌ {A = Letter} (record { label = l; writer = a; addressee = c; share = (x, y) }) (record { label = l'; writer = a'; addressee = c'; share = (x', y') })
-letter_is l l' a a' c c' x x' y y' e f g h i = cc
 
 pub letter_reads : (m : Meaning) → Lawful m → LettersReadBack → (l : Letter) → length l.label ≡ 16 → l.writer < 256 → l.addressee < 256
     → l.share.0 < 256 ^ m.s → l.share.1 < 256 ^ m.s → read_letter m (write_letter m l) ≡ l
@@ -132,9 +127,8 @@ letter_reads m laws back l e w a x y =
     let number : (p k : ℕ) → p ≡ 20 + k → code_at (F ++ body) m.s p ≡ code_at (F₀ ++ body) m.s p = λ p k z.
     code_behind F body m.s p k (omega arith) ∙ sym (code_behind F₀ body m.s p k (omega arith)) in
     ap (read_letter m) all
-    ∙ letter_is _ _ _ _ _ _ _ _ _ _
+    ∙ same_letter l
     (label_in [] n 16 l.label body 4 e refl)
     (byte 20 0 refl ∙ ap (λ (z : Letter). z.writer) r₀)
     (byte 21 1 refl ∙ ap (λ (z : Letter). z.addressee) r₀)
-    (number 22 2 refl ∙ ap (λ (z : Letter). z.share.0) r₀)
-    (number (22 + m.s) (2 + m.s) (omega arith) ∙ ap (λ (z : Letter). z.share.1) r₀)
+    (join (number 22 2 refl ∙ ap (λ (z : Letter). z.share.0) r₀) (number (22 + m.s) (2 + m.s) (omega arith) ∙ ap (λ (z : Letter). z.share.1) r₀))

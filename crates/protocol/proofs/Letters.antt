@@ -10,7 +10,7 @@ use Rattle.protocol.specs.ReadBack.{LetterFits, LettersReadBack}
 use Rattle.protocol.proofs.Codes.{behind, byte_back, behind_byte, behind_code, code_back}
 use Rattle.protocol.proofs.Frames.{frame_back}
 
-same_letter : (l : Letter) {label : List ℕ} {writer addressee : ℕ} {share : ℕ × ℕ}
+pub same_letter : (l : Letter) {label : List ℕ} {writer addressee : ℕ} {share : ℕ × ℕ}
     → label ≡ l.label → writer ≡ l.writer → addressee ≡ l.addressee → share ≡ l.share
     → ◌≡◌ {A = Letter} (record { label = label; writer = writer; addressee = addressee; share = share }) l
 same_letter l p q r e = λ i. record { label = p i; writer = q i; addressee = r i; share = e i }

@@ -1,7 +1,6 @@
 pub mod Boards
 pub mod Codes
 pub mod CodesWritten
-pub mod KindNumbers
 pub mod Frames
 pub mod Records
 pub mod RecordsWritten

@@ -1,20 +1,17 @@
 -- Phases and the number of records that have started one.
 use Rattle.std.proofs.Common.{◌≡◌, ℕ, zero, suc, ◌<◌, ◌≤◌, Bool, true, false, cond, eqb, leb, ◌⊎◌, refl, ap, ◌∙◌, inl, inr, arith}
-use Rattle.std.proofs.lemmas.Bool.{and_parts, eqb-true, ne_eqb, leb-true}
+use Rattle.std.proofs.lemmas.Bool.{and_parts, eqb-true, ne_eqb, leb-true, cond-false}
 use Rattle.group.specs.Meaning.{Meaning}
 use Rattle.protocol.specs.declared.phase.Phase.TheVariants.{Unopened, Dealing, Complaining, Answering, Exposing, Objecting, Revealing, Finished, Void}
 use Rattle.protocol.specs.Seats.{count}
 use Rattle.protocol.specs.Board.{Board, phase_number, starts, is_void, phase_after, phase_of, qualified}
 
-cond_no : {A : Type 0} (b : Bool) (x y : A) → b ≡ false → cond b x y ≡ y
-cond_no b x y e = ap (λ (z : Bool). cond z x y) e
-
 last_phase : (n : ℕ) → 7 ≤ n → phase_after n ≡ Finished
 unfolding phase_after
 last_phase n h =
-    cond_no _ Unopened _ (ne_eqb n 0 (λ e. omega arith)) ∙ cond_no _ Dealing _ (ne_eqb n 1 (λ e. omega arith)) ∙ cond_no _ Complaining _ (ne_eqb n 2 (λ e. omega arith))
-    ∙ cond_no _ Answering _ (ne_eqb n 3 (λ e. omega arith)) ∙ cond_no _ Exposing _ (ne_eqb n 4 (λ e. omega arith)) ∙ cond_no _ Objecting _ (ne_eqb n 5 (λ e. omega arith))
-    ∙ cond_no _ Revealing _ (ne_eqb n 6 (λ e. omega arith))
+    cond-false _ Unopened _ (ne_eqb n 0 (λ e. omega arith)) ∙ cond-false _ Dealing _ (ne_eqb n 1 (λ e. omega arith)) ∙ cond-false _ Complaining _ (ne_eqb n 2 (λ e. omega arith))
+    ∙ cond-false _ Answering _ (ne_eqb n 3 (λ e. omega arith)) ∙ cond-false _ Exposing _ (ne_eqb n 4 (λ e. omega arith)) ∙ cond-false _ Objecting _ (ne_eqb n 5 (λ e. omega arith))
+    ∙ cond-false _ Revealing _ (ne_eqb n 6 (λ e. omega arith))
 
 pub after_number : (n : ℕ) → ((n < 7) × (phase_number (phase_after n) ≡ n)) ⊎ ((7 ≤ n) × (phase_after n ≡ Finished))
 unfolding phase_after

@@ -1,5 +1,5 @@
 -- Recovery from passing sheets: the logarithm of the key, or two openings.
-use Rattle.std.proofs.Common.{◌≡◌, ℕ, ◌+◌, ◌%◌, ◌<◌, ◌≤◌, Bool, true, false, cond, not, ◌&&◌, ◌||◌, eqb, ltb, ◌⊎◌, List, [], ◌∷◌, map, length, get_or, take, Some, None, Option, sym, refl, ap, ◌∙◌, subst, ap₂, inl, inr, mod-lt, arith}
+use Rattle.std.proofs.Common.{◌≡◌, ℕ, ◌+◌, ◌%◌, ◌<◌, ◌≤◌, Bool, true, false, cond, not, ◌&&◌, ◌||◌, eqb, ltb, ◌⊎◌, List, [], ◌∷◌, map, length, get_or, take, Some, None, Option, sym, refl, ap, ◌∙◌, subst, ap₂, inl, inr, mod-lt, arith, map-id, length-take-le}
 use Rattle.std.specs.List.{AllByRecursion}
 use Rattle.std.proofs.ByRecursion.{All-take, All-map, All-weaker}
 use Rattle.std.proofs.lemmas.Bool.{cases_Bool, and_parts, and_cases, or_cases, ltb-true, eqb-true, eq-eqb, not-true, not-false, cond-true, cond-false}
@@ -23,7 +23,7 @@ use Rattle.protocol.specs.Recovery.{share_below, share_passes, shares_pass, shee
 use Rattle.protocol.specs.History.{Call, Made}
 use Rattle.protocol.specs.Guarantee.{IsLogarithm, Agree}
 use Rattle.protocol.proofs.Counting.{clash, lowest_some, lowest_none, some_of}
-use Rattle.protocol.proofs.SeatLists.{those_seats, those_all, length_those, seats_take, length_take_all, seats_map, map_id, length_map, In, those_in}
+use Rattle.protocol.proofs.SeatLists.{those_seats, those_all, length_those, seats_take, seats_map, length_map, In, those_in}
 use Rattle.protocol.proofs.Phases.{finished_starts}
 use Rattle.protocol.proofs.Histories.{board_after, limits}
 use Rattle.protocol.proofs.OnBoard.{writer_seat, deal_codes, exposure_codes, reveal_opens}
@@ -185,10 +185,10 @@ module _ (m : Meaning) (laws : Lawful m) (made : Made) (calls : List Call) (fin 
       there = All-take (λ j. revealed b j i ≡ true) (b.t + 1) who (those_all b.n (λ j. revealed b j i))
 
       same_seats : seats_of (map row low) ≡ low
-      same_seats = seats_map (λ j. j) (λ j. share_or0 (entry b.taken kinds.Reveal j i)) low ∙ map_id low
+      same_seats = seats_map (λ j. j) (λ j. share_or0 (entry b.taken kinds.Reveal j i)) low ∙ map-id low
 
       len : length (map row low) ≡ b.t + 1
-      len = length_map row low ∙ length_take_all (b.t + 1) who (omega (arith, length_those b.n (λ j. revealed b j i), enough_reveals m made calls fin i c))
+      len = length_map row low ∙ length-take-le (b.t + 1) who (omega (arith, length_those b.n (λ j. revealed b j i), enough_reveals m made calls fin i c))
 
       opens_row : (j : ℕ) → revealed b j i ≡ true → Share m.q (row j).1 × (commitment m (row j).1 ≡ value_at (products m) C j)
       opens_row j r =

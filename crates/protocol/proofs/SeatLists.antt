@@ -1,8 +1,9 @@
 -- Lists of different seats, by rising seat.
-use Rattle.std.proofs.Common.{◌≡◌, ℕ, zero, suc, ◌+◌, ◌<◌, ◌≤◌, Bool, true, false, cond, ◌⊎◌, List, [], ◌∷◌, ◌++◌, map, length, take, refl, ap, ◌∙◌, inl, inr, arith, length-append}
+use Rattle.std.proofs.Common.{◌≡◌, ℕ, zero, suc, ◌+◌, ◌<◌, ◌≤◌, Bool, true, false, cond, ◌⊎◌, List, [], ◌∷◌, ◌++◌, map, length, take, refl, ap, ◌∙◌, inl, inr, arith, length-append, append-nil}
 use Rattle.std.specs.List.{AllByRecursion}
 use Rattle.std.proofs.ByRecursion.{All-append, All-weaker}
 use Rattle.std.proofs.lemmas.Bool.{cases_eq}
+use Rattle.std.proofs.lemmas.List.{length-map}
 use Rattle.sharing.specs.Interpolation.{Seats, seats_of}
 use Rattle.protocol.specs.Seats.{count, those}
 
@@ -28,10 +29,6 @@ seats_push : (m : ℕ) (l : List ℕ) → Seats l → AllByRecursion (λ i. i < 
 seats_push m [] s a lo hi = (lo, hi, tt, tt)
 seats_push m (x ∷ l) s a lo hi = (s.0, s.1, apart_push x m l s.2 (λ (e : x ≡ m). omega (arith, a.0)), seats_push m l s.3 a.1 lo hi)
 
-append_none : (l : List ℕ) → l ++ [] ≡ l
-append_none [] = refl
-append_none (x ∷ l) = ap (λ (k : List ℕ). x ∷ k) (append_none l)
-
 pub those_seats : (n : ℕ) (P : ℕ → Bool) → n ≤ 32 → Seats (those n P)
 unfolding those
 those_seats zero P h = tt
@@ -39,7 +36,7 @@ those_seats (suc n) P h = go (P (suc n)) (those_seats n P (omega arith))
   where
     go : (b : Bool) → Seats (those n P) → Seats (those n P ++ cond b (suc n ∷ []) [])
     go true s = seats_push (suc n) (those n P) s (those_below n P) (omega arith) h
-    go false s = rw append_none s
+    go false s = rw append-nil s
 
 pub length_those : (n : ℕ) (P : ℕ → Bool) → length (those n P) ≡ count n P
 unfolding those count
@@ -60,22 +57,12 @@ seats_take zero l s = tt
 seats_take (suc k) [] s = tt
 seats_take (suc k) (x ∷ l) s = (s.0, s.1, apart_take x k l s.2, seats_take k l s.3)
 
-pub length_take_all : {A : Type 0} (k : ℕ) (l : List A) → k ≤ length l → length (take k l) ≡ k
-length_take_all zero l h = refl
-length_take_all (suc k) [] h = absurd (omega arith)
-length_take_all (suc k) (x ∷ l) h = ap suc (length_take_all k l (omega arith))
-
 pub seats_map : {A V : Type 0} (f : A → ℕ) (g : A → V) (l : List A) → seats_of (map (λ a. (f a, g a)) l) ≡ map f l
 seats_map f g [] = refl
 seats_map f g (x ∷ l) = ap (λ (k : List ℕ). f x ∷ k) (seats_map f g l)
 
-pub map_id : (l : List ℕ) → map (λ (a : ℕ). a) l ≡ l
-map_id [] = refl
-map_id (x ∷ l) = ap (λ (k : List ℕ). x ∷ k) (map_id l)
-
 pub length_map : {A V : Type 0} (f : A → V) (l : List A) → length (map f l) ≡ length l
-length_map f [] = refl
-length_map f (x ∷ l) = ap suc (length_map f l)
+length_map f l = length-map l f
 
 -- membership
 abbrev pub In : ℕ → List ℕ → Type 0

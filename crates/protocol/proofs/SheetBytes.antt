@@ -1,9 +1,10 @@
 -- The bytes of passing sheets pass the tests of recovery, and are read as these sheets.
-use Rattle.std.proofs.Common.{◌≡◌, ℕ, zero, suc, ◌+◌, ◌*◌, ◌/◌, ◌^◌, ◌<◌, ◌≤◌, Bool, true, false, cond, eqb, leb, List, [], ◌∷◌, ◌++◌, map, length, get_or, Some, None, sym, refl, ap, ◌∙◌, subst, ap₂, append_assoc, append-nil, mul-le-mul, arith, length-append, get_or-append-add}
+use Rattle.std.proofs.Common.{◌≡◌, ℕ, zero, suc, ◌+◌, ◌*◌, ◌^◌, ◌<◌, ◌≤◌, Bool, true, false, cond, eqb, leb, List, [], ◌∷◌, ◌++◌, map, length, get_or, Some, None, sym, refl, ap, ◌∙◌, subst, ap₂, append_assoc, append-nil, mul-le-mul, arith, length-append, get_or-append-add}
 use Rattle.std.specs.List.{AllByRecursion}
 use Rattle.std.proofs.lemmas.Bool.{and_parts, and_from, or_from, eqb-true, eq-eqb, ne_eqb, le-leb, lt-ltb, not_from_false}
 use Rattle.group.specs.declared.fault.GroupFault.TheVariants.{NoCandidate}
 use Rattle.group.specs.Code.{code, code_at}
+use Rattle.group.specs.CodeLaws.{code_length}
 use Rattle.group.specs.Meaning.{Meaning, Lawful}
 use Rattle.sharing.specs.Codes.{first_of, decoded_from, refused_from, scalar_refused}
 use Rattle.sharing.specs.Interpolation.{Seats, Share}
@@ -39,11 +40,6 @@ two_bytes n l h = omega arith
 pub two_more : (n k : ℕ) (l : List ℕ) → k < 65536 → code_at (code 2 n ++ (code 2 k ++ l)) 2 2 ≡ k
 unfolding code_at code
 two_more n k l h = omega arith
-
-pub length_code : (w n : ℕ) → length (code w n) ≡ w
-unfolding code
-length_code zero n = refl
-length_code (suc w) n = ap suc (length_code w (n / 256))
 
 -- the length and the kind in the frame of a record behind other bytes
 pub frame_length : (front body after : List ℕ) (n k : ℕ) → n < 65536 → code_at (front ++ ((code 2 n ++ (code 2 k ++ body)) ++ after)) 2 (length front) ≡ n
@@ -130,7 +126,7 @@ module _ (m : Meaning) (laws : Lawful m) (b : Board) (few : length (dealers m b)
         let w = written_size in
         let w2 : length (write_sheet m s) ≡ 2 + (2 + length body) =
         length-append (code 2 (2 + length body)) (code 2 17 ++ body)
-        ∙ ap₂ ◌+◌ (length_code 2 (2 + length body)) (length-append (code 2 17) body ∙ ap (λ (z : ℕ). z + length body) (length_code 2 17)) in
+        ∙ ap₂ ◌+◌ (code_length 2 (2 + length body)) (length-append (code 2 17) body ∙ ap (λ (z : ℕ). z + length body) (code_length 2 17)) in
         let width = laws.s_to in
         let two : 2 * dealt ≤ 64 = omega arith in
         let p : 2 * dealt * m.s ≤ 64 * 4 = mul-le-mul two width in

@@ -9,7 +9,7 @@ use Rattle.protocol.specs.ReadBack.{SheetFits, SheetsReadBack}
 use Rattle.protocol.proofs.Codes.{behind, byte_back, behind_byte, pairs_back, pairs_length}
 use Rattle.protocol.proofs.Frames.{framed_length, body_behind}
 
-same_sheet : (s : Sheet) {label : List ℕ} {seat : ℕ} {shares : List (ℕ × ℕ)} → label ≡ s.label → seat ≡ s.seat → shares ≡ s.shares
+pub same_sheet : (s : Sheet) {label : List ℕ} {seat : ℕ} {shares : List (ℕ × ℕ)} → label ≡ s.label → seat ≡ s.seat → shares ≡ s.shares
     → ◌≡◌ {A = Sheet} (record { label = label; seat = seat; shares = shares }) s
 same_sheet s p q e = λ i. record { label = p i; seat = q i; shares = e i }
 

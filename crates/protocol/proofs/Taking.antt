@@ -8,7 +8,7 @@ use Rattle.protocol.specs.declared.kind.Kind.TheVariants as kinds
 use Rattle.protocol.specs.Seats.{is_seat}
 use Rattle.protocol.specs.Record.{Posted, kind_number, kind_with, kind_field, length_field, writer_of, read_record}
 use Rattle.protocol.specs.Board.{Board, phase_of, phase_number, starts, all_revealed}
-use Rattle.protocol.specs.Refusals.{tests_of, tests_for, posting_fault, opening_fault, opened, n_field, t_field, label_field, kind_or}
+use Rattle.protocol.specs.Refusals.{phase_test, seat_test, tests_of, tests_for, posting_fault, opening_fault, opened, n_field, t_field, label_field, kind_or}
 use Rattle.protocol.proofs.Counting.{clash, none_some, seat_parts}
 use Rattle.protocol.proofs.Faults.{passed, unless_true}
 use Rattle.protocol.proofs.Entries.{Middle, kind_number_lem}
@@ -71,15 +71,21 @@ pub record BySeat (m : Meaning) (b : Board) (bytes : List ℕ) (kind : Kind) : T
   pub middle : Middle kind
   pub seated : is_seat b.n (writer_of bytes) ≡ true
 
+-- what the tests of phase and seat say of it
+seat_posts : (m : Meaning) (b : Board) (bytes : List ℕ) (kind : Kind) → 2 ≤ kind_number kind → kind_number kind ≤ 7
+    → phase_test m b kind ≡ None → seat_test b (writer_of bytes) 4 ≡ None → BySeat m b bytes kind
+seat_posts m b bytes kind low high phase seat =
+    record { home = eqb-true _ _ (unless_true _ _ phase); middle = record { low = low; high = high }; seated = unless_true _ _ seat }
+
 pub by_seat : (m : Meaning) (b : Board) (bytes : List ℕ) (kind : Kind) → Silent m b bytes kind → (kind_number kind ≡ 8 → ⊥) → BySeat m b bytes kind
 unfolding tests_of
 by_seat m b bytes kinds.Opening a n = none_some _ (sym a.0)
-by_seat m b bytes kinds.Deal a n = record { home = eqb-true _ _ (unless_true _ _ a.1.0); middle = record { low = omega arith; high = omega arith }; seated = unless_true _ _ a.1.1.0 }
-by_seat m b bytes kinds.Complaint a n = record { home = eqb-true _ _ (unless_true _ _ a.1.0); middle = record { low = omega arith; high = omega arith }; seated = unless_true _ _ a.1.1.0 }
-by_seat m b bytes kinds.Answer a n = record { home = eqb-true _ _ (unless_true _ _ a.1.0); middle = record { low = omega arith; high = omega arith }; seated = unless_true _ _ a.1.1.0 }
-by_seat m b bytes kinds.Exposure a n = record { home = eqb-true _ _ (unless_true _ _ a.1.0); middle = record { low = omega arith; high = omega arith }; seated = unless_true _ _ a.1.1.0 }
-by_seat m b bytes kinds.Objection a n = record { home = eqb-true _ _ (unless_true _ _ a.1.0); middle = record { low = omega arith; high = omega arith }; seated = unless_true _ _ a.1.1.0 }
-by_seat m b bytes kinds.Reveal a n = record { home = eqb-true _ _ (unless_true _ _ a.1.0); middle = record { low = omega arith; high = omega arith }; seated = unless_true _ _ a.1.1.0 }
+by_seat m b bytes kinds.Deal a n = seat_posts m b bytes kinds.Deal (omega arith) (omega arith) a.1.0 a.1.1.0
+by_seat m b bytes kinds.Complaint a n = seat_posts m b bytes kinds.Complaint (omega arith) (omega arith) a.1.0 a.1.1.0
+by_seat m b bytes kinds.Answer a n = seat_posts m b bytes kinds.Answer (omega arith) (omega arith) a.1.0 a.1.1.0
+by_seat m b bytes kinds.Exposure a n = seat_posts m b bytes kinds.Exposure (omega arith) (omega arith) a.1.0 a.1.1.0
+by_seat m b bytes kinds.Objection a n = seat_posts m b bytes kinds.Objection (omega arith) (omega arith) a.1.0 a.1.1.0
+by_seat m b bytes kinds.Reveal a n = seat_posts m b bytes kinds.Reveal (omega arith) (omega arith) a.1.0 a.1.1.0
 by_seat m b bytes kinds.Close a n = absurd (n refl)
 by_seat m b bytes kinds.Letter a n = none_some _ (sym a.0)
 by_seat m b bytes kinds.Sheet a n = none_some _ (sym a.0)

@@ -15,10 +15,12 @@ use Rattle.protocol.specs.declared.fault.CeremonyFault.{CeremonyFault}
 use Rattle.protocol.specs.declared.fault.CeremonyFault.TheVariants.{Record, OutOfPhase, NoSeat, EqualSeats, Missing, Repeated}
 use Rattle.protocol.specs.declared.fault.CustodianFault.{CustodianFault}
 use Rattle.protocol.specs.declared.fault.CustodianFault.TheVariants.{Ceremony, TooSmall, Stranger}
+use Rattle.protocol.specs.declared.report.Report.{Report}
+use Rattle.protocol.specs.declared.report.Layer.TheVariants as layers
 use Rattle.protocol.specs.Seats.{is_seat, lowest, holds, mapped, or_else}
 use Rattle.protocol.specs.Record.{Posted, framed, kind_number, length_field, kind_field, write_record}
 use Rattle.protocol.specs.Board.{Board, phase_of, phase_number, entry, has, deal_of, exposure_of, complained, objected, revealed, share_in, shares, passes1, passes2, qualified, contested, dealers}
-use Rattle.protocol.specs.Refusals.{unless, first_fault, is_framed, Report, CustodianLayer, report_of}
+use Rattle.protocol.specs.Refusals.{unless, first_fault, is_framed, report_of}
 
 -- A seated custodian: its seat, the label, n and t of its ceremony, its coefficients (a_k, b_k), and the share in the letter taken from each dealer.
 pub record Custodian : Type 0 where
@@ -267,5 +269,5 @@ sheet_fault m b custodian room =
 -- The number, layer, place and reason of each fault.
 abbrev pub custodian_report : CustodianFault → Report
 custodian_report (Ceremony fault) = report_of fault
-custodian_report TooSmall = record { number = 14; layer = CustodianLayer; place = 0; reason = 0 }
-custodian_report (Stranger place) = record { number = 15; layer = CustodianLayer; place = place; reason = 0 }
+custodian_report TooSmall = record { number = 14; layer = layers.Custodian; place = 0; reason = 0 }
+custodian_report (Stranger place) = record { number = 15; layer = layers.Custodian; place = place; reason = 0 }

@@ -11,4 +11,4 @@ pub mod Guarantee
 pub mod Met
 pub mod Instances
 pub mod Given
-pub mod Told
+pub mod Text

@@ -5,6 +5,7 @@ use Rattle.group.specs.Meaning.{Meaning}
 use Rattle.protocol.specs.declared.phase.Phase.TheVariants.{Finished}
 use Rattle.protocol.specs.declared.fault.CeremonyFault.{CeremonyFault}
 use Rattle.protocol.specs.declared.fault.CeremonyFault.TheVariants.{OutOfPhase, SmallOutput}
+use Rattle.protocol.specs.declared.row.SeatRow.{SeatRow}
 use Rattle.protocol.specs.declared.state.SeatState.{SeatState}
 use Rattle.protocol.specs.declared.state.SeatState.TheVariants.{Absent, Dealt, Out, Qualified, Contested}
 use Rattle.protocol.specs.Board.{Board, starts, phase_of, phase_number, deal_of, complaints, qualified, contested, key}
@@ -25,8 +26,8 @@ word_of Qualified = codes "qualified"
 word_of Contested = codes "contested"
 
 -- a row of the seat list
-abbrev pub row_of : Meaning → Board → ℕ → SeatState × ℕ
-row_of m b i = (state_of m b i, complaints b i)
+abbrev pub row_of : Meaning → Board → ℕ → SeatRow
+row_of m b i = record { state = state_of m b i; complaints = complaints b i }
 
 abbrev pub key_code : Meaning → Board → List ℕ
 key_code m b = code m.w (key m b)

@@ -1,9 +1,10 @@
 -- Records: what their bytes say, and the bytes that say it. Definitions.
-use Rattle.std.specs.Prelude.{ℕ, ◌+◌, ◌*◌, cond, List, [], ◌∷◌, ◌++◌, length, Some, None, Option, ◌==◌, slice_index}
+use Rattle.std.specs.Prelude.{◌≡◌, ℕ, ◌+◌, ◌*◌, cond, List, [], ◌∷◌, ◌++◌, length, Some, None, Option, Result, MatchResult, ◌==◌, slice_index}
 use Rattle.group.specs.Code.{code, code_at}
 use Rattle.group.specs.Meaning.{Meaning}
 use Rattle.sharing.specs.Codes.{decoded_from}
 use Rattle.protocol.specs.declared.kind.Kind.{Kind}
+use Rattle.protocol.specs.declared.kind.UnknownKind.{UnknownKind}
 use Rattle.protocol.specs.declared.kind.Kind.TheVariants.{Opening, Deal, Complaint, Answer, Exposure, Objection, Reveal, Close, Letter, Sheet}
 
 abbrev pub kind_number : Kind → ℕ
@@ -24,6 +25,10 @@ kind_with n =
     cond (n == 1) (Some Opening) (cond (n == 2) (Some Deal) (cond (n == 3) (Some Complaint) (cond (n == 4) (Some Answer)
     (cond (n == 5) (Some Exposure) (cond (n == 6) (Some Objection) (cond (n == 7) (Some Reveal) (cond (n == 8) (Some Close)
     (cond (n == 16) (Some Letter) (cond (n == 17) (Some Sheet) None)))))))))
+
+-- the result is the kind with the number, or an error with a number that no kind has
+abbrev pub Decodes : ℕ → Result Kind UnknownKind → Type 0
+Decodes n r = MatchResult r (λ kind. kind_with n ≡ Some kind) (λ e. (kind_with n ≡ None) × (e.0 ≡ n))
 
 -- The frame: the length of what follows it in two bytes, the kind in two bytes, the body.
 

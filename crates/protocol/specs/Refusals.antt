@@ -13,6 +13,8 @@ use Rattle.protocol.specs.declared.fault.Equation.{Equation}
 use Rattle.protocol.specs.declared.fault.Equation.TheVariants.{First, Second}
 use Rattle.protocol.specs.declared.fault.CeremonyFault.{CeremonyFault}
 use Rattle.protocol.specs.declared.fault.CeremonyFault.TheVariants.{Record, OutOfPhase, NoSeat, EqualSeats, Missing, Repeated, Unequal, FewReveals, Parameter, SmallArea, SmallOutput}
+use Rattle.protocol.specs.declared.report.Report.{Report}
+use Rattle.protocol.specs.declared.report.Layer.TheVariants as layers
 use Rattle.protocol.specs.Seats.{is_seat, or_else, mapped}
 use Rattle.protocol.specs.Record.{kind_number, kind_with, length_field, kind_field, layout_of, length_of, writer_of, second_of, read_record}
 use Rattle.protocol.specs.Board.{Board, phase_of, phase_number, has, deal_of, exposure_of, complained, objected, revealed, share_in, passes1, passes2, qualified, contested, all_revealed}
@@ -236,33 +238,21 @@ equations_replayed m b (bytes ∷ rest) = equations_tested m b bytes + equations
 
 -- The number, layer, place and reason of each fault.
 
-pub data Layer : Type 0 where
-  FrameLayer : Layer
-  GroupLayer : Layer
-  CeremonyLayer : Layer
-  CustodianLayer : Layer
-
-pub record Report : Type 0 where
-  pub number : ℕ
-  pub layer : Layer
-  pub place : ℕ
-  pub reason : ℕ
-
 abbrev pub record_report : RecordFault → Report
-record_report (records.Frame place) = record { number = 1; layer = FrameLayer; place = place; reason = 0 }
-record_report (records.Kind place) = record { number = 2; layer = FrameLayer; place = place; reason = 0 }
-record_report (records.Length place) = record { number = 3; layer = FrameLayer; place = place; reason = 0 }
-record_report (records.Code fault) = record { number = 9; layer = GroupLayer; place = reading.place_of fault; reason = reading.reason_of fault }
+record_report (records.Frame place) = record { number = 1; layer = layers.Frame; place = place; reason = 0 }
+record_report (records.Kind place) = record { number = 2; layer = layers.Frame; place = place; reason = 0 }
+record_report (records.Length place) = record { number = 3; layer = layers.Frame; place = place; reason = 0 }
+record_report (records.Code fault) = record { number = 9; layer = layers.Group; place = reading.place_of fault; reason = reading.reason_of fault }
 
 abbrev pub report_of : CeremonyFault → Report
 report_of (Record fault) = record_report fault
-report_of (OutOfPhase place) = record { number = 4; layer = CeremonyLayer; place = place; reason = 0 }
-report_of (NoSeat place) = record { number = 5; layer = CeremonyLayer; place = place; reason = 0 }
-report_of (EqualSeats place) = record { number = 6; layer = CeremonyLayer; place = place; reason = 0 }
-report_of (Missing place) = record { number = 7; layer = CeremonyLayer; place = place; reason = 0 }
-report_of (Repeated place) = record { number = 8; layer = CeremonyLayer; place = place; reason = 0 }
-report_of (Unequal place equation) = record { number = 10; layer = CeremonyLayer; place = place; reason = equation_number equation }
-report_of (FewReveals place) = record { number = 11; layer = CeremonyLayer; place = place; reason = 0 }
-report_of (Parameter place) = record { number = 12; layer = CeremonyLayer; place = place; reason = 0 }
-report_of SmallArea = record { number = 13; layer = CeremonyLayer; place = 0; reason = 0 }
-report_of SmallOutput = record { number = 14; layer = CustodianLayer; place = 0; reason = 0 }
+report_of (OutOfPhase place) = record { number = 4; layer = layers.Ceremony; place = place; reason = 0 }
+report_of (NoSeat place) = record { number = 5; layer = layers.Ceremony; place = place; reason = 0 }
+report_of (EqualSeats place) = record { number = 6; layer = layers.Ceremony; place = place; reason = 0 }
+report_of (Missing place) = record { number = 7; layer = layers.Ceremony; place = place; reason = 0 }
+report_of (Repeated place) = record { number = 8; layer = layers.Ceremony; place = place; reason = 0 }
+report_of (Unequal place equation) = record { number = 10; layer = layers.Ceremony; place = place; reason = equation_number equation }
+report_of (FewReveals place) = record { number = 11; layer = layers.Ceremony; place = place; reason = 0 }
+report_of (Parameter place) = record { number = 12; layer = layers.Ceremony; place = place; reason = 0 }
+report_of SmallArea = record { number = 13; layer = layers.Ceremony; place = 0; reason = 0 }
+report_of SmallOutput = record { number = 14; layer = layers.Custodian; place = 0; reason = 0 }

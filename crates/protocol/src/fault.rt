@@ -11,10 +11,11 @@ pub enum RecordFault {
     Code(GroupFault),
 }
 
+// The two equations that a share is tested by, by their numbers.
 #[derive(Clone, Copy, Debug, PartialEq, Eq)]
 pub enum Equation {
-    First,
-    Second,
+    First = 1,
+    Second = 2,
 }
 
 // Why a ceremony refuses a call.

@@ -1,13 +1,13 @@
-// The phases of a ceremony.
+// The phases of a ceremony, by their numbers.
 #[derive(Clone, Copy, Debug, PartialEq, Eq)]
 pub enum Phase {
-    Unopened,
-    Dealing,
-    Complaining,
-    Answering,
-    Exposing,
-    Objecting,
-    Revealing,
-    Finished,
-    Void,
+    Unopened = 0,
+    Dealing = 1,
+    Complaining = 2,
+    Answering = 3,
+    Exposing = 4,
+    Objecting = 5,
+    Revealing = 6,
+    Finished = 7,
+    Void = 8,
 }

@@ -2,7 +2,6 @@
 ghost use Rattle.std.specs.Prelude.{◌≡◌};
 ghost use Rattle.protocol.specs.Refusals.{equation_number, equations_refused, record_report, report_of};
 ghost use Rattle.protocol.specs.Custodian.{custodian_report};
-ghost use Rattle.protocol.specs.Told.{layer_told, report_told};
 ghost use Rattle.protocol.specs.declared.fault.RecordFault.TheVariants.{Code};
 ghost use Rattle.protocol.specs.declared.fault.CeremonyFault.TheVariants.{Record};
 ghost use Rattle.protocol.specs.declared.fault.CustodianFault.TheVariants.{Ceremony};
@@ -11,6 +10,7 @@ use crate::fault::{CeremonyFault, CustodianFault, Equation, RecordFault};
 use crate::report::{Layer, Report};
 use group::fault::GroupFault;
 
+// By hand: a derived From has no contract, and `?` needs it.
 impl From<GroupFault> for RecordFault {
     ghost from_gives = { λ e r. r ≡ Code e };
 
@@ -39,26 +39,35 @@ impl Equation {
     pub fn number(self) -> u8
         ensures { result ≡ equation_number self }
     {
-        match self {
-            Equation::First => 1,
-            Equation::Second => 2,
+        self as u8
+    }
+}
+
+impl Report {
+    // A report without a reason.
+    fn new(number: u8, layer: Layer, place: usize) -> Report
+        ensures { result ≡ record { number = number; layer = layer; place = place; reason = 0 } }
+    {
+        Report {
+            number,
+            layer,
+            place,
+            reason: 0,
         }
     }
 }
 
 impl RecordFault {
     pub fn report(self) -> Report
-        ensures { report_told result ≡ record_report self }
+        ensures { result ≡ record_report self }
     {
         match self {
-            RecordFault::Frame { place } => told(1, Layer::Frame, place),
-            RecordFault::Kind { place } => told(2, Layer::Frame, place),
-            RecordFault::Length { place } => told(3, Layer::Frame, place),
+            RecordFault::Frame { place } => Report::new(1, Layer::Frame, place),
+            RecordFault::Kind { place } => Report::new(2, Layer::Frame, place),
+            RecordFault::Length { place } => Report::new(3, Layer::Frame, place),
             RecordFault::Code(fault) => Report {
-                number: 9,
-                layer: Layer::Group,
-                place: fault.place(),
                 reason: fault.reason(),
+                ..Report::new(9, Layer::Group, fault.place())
             },
         }
     }
@@ -66,30 +75,26 @@ impl RecordFault {
 
 impl CeremonyFault {
     pub fn report(self) -> Report
-        ensures { report_told result ≡ report_of self }
+        ensures { result ≡ report_of self }
     {
         match self {
             CeremonyFault::Record(fault) => fault.report(),
-            CeremonyFault::OutOfPhase { place } => told(4, Layer::Ceremony, place),
-            CeremonyFault::NoSeat { place } => told(5, Layer::Ceremony, place),
-            CeremonyFault::EqualSeats { place } => told(6, Layer::Ceremony, place),
-            CeremonyFault::Missing { place } => told(7, Layer::Ceremony, place),
-            CeremonyFault::Repeated { place } => told(8, Layer::Ceremony, place),
+            CeremonyFault::OutOfPhase { place } => Report::new(4, Layer::Ceremony, place),
+            CeremonyFault::NoSeat { place } => Report::new(5, Layer::Ceremony, place),
+            CeremonyFault::EqualSeats { place } => Report::new(6, Layer::Ceremony, place),
+            CeremonyFault::Missing { place } => Report::new(7, Layer::Ceremony, place),
+            CeremonyFault::Repeated { place } => Report::new(8, Layer::Ceremony, place),
             CeremonyFault::Unequal { place, equation } => Report {
-                number: 10,
-                layer: Layer::Ceremony,
-                place,
                 reason: equation.number(),
+                ..Report::new(10, Layer::Ceremony, place)
             },
-            CeremonyFault::FewReveals { place } => told(11, Layer::Ceremony, place),
-            CeremonyFault::Parameter { place } => told(12, Layer::Ceremony, place),
-            CeremonyFault::SmallArea => told(13, Layer::Ceremony, 0),
-            CeremonyFault::SmallOutput => told(14, Layer::Custodian, 0),
+            CeremonyFault::FewReveals { place } => Report::new(11, Layer::Ceremony, place),
+            CeremonyFault::Parameter { place } => Report::new(12, Layer::Ceremony, place),
+            CeremonyFault::SmallArea => Report::new(13, Layer::Ceremony, 0),
+            CeremonyFault::SmallOutput => Report::new(14, Layer::Custodian, 0),
         }
     }
-}
 
-impl CeremonyFault {
     // How many equations were tested before the refusal.
     pub fn equations(self) -> u8
         ensures { result ≡ equations_refused self }
@@ -103,24 +108,12 @@ impl CeremonyFault {
 
 impl CustodianFault {
     pub fn report(self) -> Report
-        ensures { report_told result ≡ custodian_report self }
+        ensures { result ≡ custodian_report self }
     {
         match self {
             CustodianFault::Ceremony(fault) => fault.report(),
-            CustodianFault::TooSmall => told(14, Layer::Custodian, 0),
-            CustodianFault::Stranger { place } => told(15, Layer::Custodian, place),
+            CustodianFault::TooSmall => Report::new(14, Layer::Custodian, 0),
+            CustodianFault::Stranger { place } => Report::new(15, Layer::Custodian, place),
         }
-    }
-}
-
-// A report without a reason.
-fn told(number: u8, layer: Layer, place: usize) -> Report
-    ensures { report_told result ≡ record { number = number; layer = layer_told layer; place = place; reason = 0 } }
-{
-    Report {
-        number,
-        layer,
-        place,
-        reason: 0,
     }
 }

@@ -1,5 +1,5 @@
 -- The serving Reveals of a ceremony: their seats, and that their scalars are below q.
-use Rattle.std.proofs.Common.{◌≡◌, ℕ, zero, suc, ◌+◌, ◌*◌, ◌<◌, ◌≤◌, List, [], ◌∷◌, length, take, Some, None, Option, sym, refl, ap, ◌∙◌, subst, mul-le-mul_right, arith}
+use Rattle.std.proofs.Common.{◌≡◌, ℕ, ◌+◌, ◌<◌, Some, None, Option, sym, refl, ap, ◌∙◌, subst, arith}
 use Rattle.std.proofs.lemmas.Bool.{ltb-true}
 use Rattle.group.specs.Code.{code_at}
 use Rattle.group.specs.Meaning.{Meaning, Lawful}
@@ -40,15 +40,3 @@ module _ (m : Meaning) (laws : Lawful m) (s : State) (kept : Kept m s) where
       let n = kept.n in
       let few = kept.few in
       seats_take ((board_of m s).t + 1) (those (board_of m s).n (λ j. revealed (board_of m s) j i)) (those_seats (board_of m s).n (λ j. revealed (board_of m s) j i) (omega arith))
-
-short : (k : ℕ) (l : List ℕ) → length (take k l) ≤ k
-short zero l = omega arith
-short (suc k) [] = omega arith
-short (suc k) (x ∷ l) = let h = short k l in omega arith
-
--- sixteen shares of eight bytes at most
-pub shares_fit : (m : Meaning) → Lawful m → (k : ℕ) (l : List ℕ) → k ≤ 16 → length (take k l) * (m.s + m.s) ≤ 128
-shares_fit m laws k l h =
-    let few : length (take k l) ≤ 16 = omega (arith, short k l) in
-    let wide = mul-le-mul_right (m.s + m.s) few in
-    omega (arith, laws.s_to)

@@ -14,13 +14,9 @@ abbrev pub unless_refused : {A : Type 0} → Option CeremonyFault → List A →
 unless_refused None after before = after
 unless_refused (Some fault) after before = before
 
--- a row of the seat list, as the code holds it
-abbrev pub seat_row : Meaning → Board → ℕ → SeatRow
-seat_row m b i = record { state = (row_of m b i).0; complaints = (row_of m b i).1 }
-
 -- the rows of the seats 1 to n, and behind them the rows that were there
 abbrev pub with_seats : Meaning → Board → List SeatRow → List SeatRow
-with_seats m b rows = map (seat_row m b) (range_with_len 1 b.n) ++ drop b.n rows
+with_seats m b rows = map (row_of m b) (range_with_len 1 b.n) ++ drop b.n rows
 
 abbrev pub after_seat_list : Meaning → Board → List SeatRow → List SeatRow
 after_seat_list m b rows = unless_refused (seat_list_fault m b (length rows)) (with_seats m b rows) rows

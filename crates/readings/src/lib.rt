@@ -4,4 +4,5 @@
 pub mod key;
 pub mod reveals;
 pub mod seats;
+mod serving;
 pub mod words;

@@ -1,13 +1,12 @@
 // The Reveals that serve for a contested dealer, and the share that they interpolate to.
-ghost use Rattle.std.specs.Prelude.{◌≡◌, ◌+◌, ◌*◌, ◌≤◌, map, length, take};
+ghost use Rattle.std.specs.Prelude.{◌≡◌, ◌+◌, ◌*◌, ◌≤◌, map, length};
 ghost use Rattle.protocol.specs.Board.{revealed_share};
 ghost use Rattle.protocol.specs.Custodian.{pair_codes};
-ghost use Rattle.board_index.specs.State.{board_of};
-ghost use Rattle.board_index.specs.Kept.{Kept};
-ghost use Rattle.board.specs.State.{state_of};
+ghost use Rattle.board.specs.State.{board};
 ghost use Rattle.readings.specs.Outputs.{written_in};
 ghost use Rattle.readings.specs.Serving.{serving_seats, share_of};
 
+use crate::serving::ServingSeats;
 use board::ceremony::Ceremony;
 use group::group::Group;
 use protocol::kind::Kind;
@@ -15,57 +14,49 @@ use sharing::commitment::Share;
 use sharing::interpolation::interpolate_known;
 use sharing::linear::Linear;
 
-// Finds the lowest seats that have revealed for a dealer, t + 1 at most, and tells how many they are.
-fn find_serving<G: Group>(ceremony: &Ceremony<'_, G>, dealer: u8, seats: &mut [u8]) -> usize
-    requires kept { Kept G.meaning (state_of ceremony.now) }
-    requires room { 16 ≤ length seats.old }
-    ensures within { result ≤ 16 }
-    ensures seats { take result seats.new ≡ serving_seats (board_of G.meaning (state_of ceremony.now)) dealer }
+// The lowest seats that have revealed for a dealer.
+fn find_serving<G: Group>(ceremony: &Ceremony<'_, G>, dealer: u8) -> ServingSeats
+    ensures { result ≡ serving_seats (board ceremony.now) dealer }
 {
     let t = ceremony.t() as usize;
-    let mut count = 0;
+    let mut serving = ServingSeats::new();
+    // A test inside: the checker cannot state its part for a `for` over filter and take here.
     for j in 1..ceremony.n() + 1 {
-        if count <= t && ceremony.has(Kind::Reveal, j, dealer) {
-            seats[count] = j;
-            count += 1;
+        if serving.len() <= t && ceremony.has(Kind::Reveal, j, dealer) {
+            serving.push(j);
         }
     }
-    count
+    serving
 }
 
 // The share that a seat has revealed for a dealer, two zeros where it has revealed none.
 fn share_of<G: Group>(ceremony: &Ceremony<'_, G>, dealer: u8, seat: u8) -> Share<G>
-    requires { Kept G.meaning (state_of ceremony.now) }
-    ensures { (G.scalar_of result.left.value, G.scalar_of result.right.value) ≡ share_of (board_of G.meaning (state_of ceremony.now)) dealer seat }
+    ensures { (G.scalar_of result.left.value, G.scalar_of result.right.value) ≡ share_of (board ceremony.now) dealer seat }
 {
-    match ceremony.share_in(Kind::Reveal, seat, dealer) {
-        Some(share) => share,
-        None => <Share<G> as Linear<G>>::zero(),
-    }
+    ceremony
+        .share_in(Kind::Reveal, seat, dealer)
+        .unwrap_or(<Share<G> as Linear<G>>::zero())
 }
 
 // Writes the shares of these seats one after another.
 fn write_shares<G: Group>(ceremony: &Ceremony<'_, G>, dealer: u8, seats: &[u8], out: &mut [u8])
-    requires kept { Kept G.meaning (state_of ceremony.now) }
     requires room { length seats.now * (G.meaning.s + G.meaning.s) ≤ length out.old }
-    ensures { out.new ≡ written_in out.old (pair_codes G.meaning.s (map (share_of (board_of G.meaning (state_of ceremony.now)) dealer) seats.now)) }
+    ensures { out.new ≡ written_in out.old (pair_codes G.meaning.s (map (share_of (board ceremony.now) dealer) seats.now)) }
 {
     let width = <Share<G> as Linear<G>>::code_width();
-    for k in 0..seats.len() {
-        share_of(ceremony, dealer, seats[k]).write(out, k * width);
+    for (k, seat) in seats.iter().enumerate() {
+        share_of(ceremony, dealer, *seat).write(out, k * width);
     }
 }
 
 // The share (z, z') that the serving Reveals for a dealer interpolate to.
 pub fn revealed_share<G: Group>(ceremony: &Ceremony<'_, G>, dealer: u8) -> Share<G>
-    requires { Kept G.meaning (state_of ceremony.now) }
-    ensures { (G.scalar_of result.left.value, G.scalar_of result.right.value) ≡ revealed_share G.meaning (board_of G.meaning (state_of ceremony.now)) dealer }
+    ensures { (G.scalar_of result.left.value, G.scalar_of result.right.value) ≡ revealed_share G.meaning (board ceremony.now) dealer }
 {
-    // t is 15 at most, and a share has two codes of four bytes at most.
-    let mut serving = [0; 16];
+    // A share has two codes of four bytes at most. A fixed array, as there is no heap.
     let mut shares = [0; 128];
-    let count = find_serving(ceremony, dealer, &mut serving);
-    let seats = &serving[..count];
+    let serving = find_serving(ceremony, dealer);
+    let seats = serving.as_slice();
     write_shares(ceremony, dealer, seats, &mut shares);
     interpolate_known::<G, Share<G>>(seats, &shares, 0)
 }

@@ -1,12 +1,10 @@
 // The states of the seats, and the seat list.
 ghost use Rattle.std.specs.Prelude.{◌≡◌, length, nat_lt};
 ghost use Rattle.protocol.specs.Board.{starts};
-ghost use Rattle.protocol.specs.Readings.{state_of as seat_state, seat_list_fault};
-ghost use Rattle.board_index.specs.State.{board_of};
-ghost use Rattle.board_index.specs.Kept.{Kept};
-ghost use Rattle.board.specs.State.{state_of};
+ghost use Rattle.protocol.specs.Readings.{state_of as seat_state, row_of as seat_row, seat_list_fault};
+ghost use Rattle.board.specs.State.{board};
 ghost use Rattle.board.specs.Posting.{answer_of};
-ghost use Rattle.readings.specs.Outputs.{seat_row, after_seat_list};
+ghost use Rattle.readings.specs.Outputs.{after_seat_list};
 
 use board::ceremony::Ceremony;
 use group::group::Group;
@@ -18,19 +16,18 @@ use protocol::state::SeatState;
 
 // Whether Close 3 is still to come.
 fn are_answers_open<G: Group>(ceremony: &Ceremony<'_, G>) -> bool
-    requires { Kept G.meaning (state_of ceremony.now) }
-    ensures { result ≡ nat_lt (starts (board_of G.meaning (state_of ceremony.now)).taken) 4 }
+    ensures { result ≡ nat_lt (starts (board ceremony.now).taken) 4 }
 {
-    match ceremony.phase() {
-        Phase::Unopened | Phase::Dealing | Phase::Complaining | Phase::Answering => true,
-        _ => false,
-    }
+    matches!(
+        ceremony.phase(),
+        Phase::Unopened | Phase::Dealing | Phase::Complaining | Phase::Answering
+    )
 }
 
 // The state of a seat; absent where there is no such seat.
+#[tactic(auto, unfolding(protocol::specs::Readings::state_of))]
 pub fn state_of<G: Group>(ceremony: &Ceremony<'_, G>, seat: u8) -> SeatState
-    requires { Kept G.meaning (state_of ceremony.now) }
-    ensures { result ≡ seat_state G.meaning (board_of G.meaning (state_of ceremony.now)) seat }
+    ensures { result ≡ seat_state G.meaning (board ceremony.now) seat }
 {
     if !ceremony.has(Kind::Deal, seat, 0) {
         return SeatState::Absent;
@@ -49,8 +46,7 @@ pub fn state_of<G: Group>(ceremony: &Ceremony<'_, G>, seat: u8) -> SeatState
 
 // The row of a seat.
 fn row_of<G: Group>(ceremony: &Ceremony<'_, G>, seat: u8) -> SeatRow
-    requires { Kept G.meaning (state_of ceremony.now) }
-    ensures { result ≡ seat_row G.meaning (board_of G.meaning (state_of ceremony.now)) seat }
+    ensures { result ≡ seat_row G.meaning (board ceremony.now) seat }
 {
     SeatRow {
         state: state_of(ceremony, seat),
@@ -59,21 +55,22 @@ fn row_of<G: Group>(ceremony: &Ceremony<'_, G>, seat: u8) -> SeatRow
 }
 
 // Writes the rows of all seats, that of seat 1 first. Rows behind them stay.
+#[tactic(auto, unfolding(protocol::specs::Readings::seat_list_fault, protocol::specs::Refusals::first_fault))]
 pub fn seat_list<G: Group>(
     ceremony: &Ceremony<'_, G>,
     rows: &mut [SeatRow],
 ) -> Result<(), CeremonyFault>
-    requires { Kept G.meaning (state_of ceremony.now) }
-    ensures answer { result ≡ answer_of (seat_list_fault G.meaning (board_of G.meaning (state_of ceremony.now)) (length rows.old)) tt }
-    ensures rows { rows.new ≡ after_seat_list G.meaning (board_of G.meaning (state_of ceremony.now)) rows.old }
+    ensures answer { result ≡ answer_of (seat_list_fault G.meaning (board ceremony.now) (length rows.old)) tt }
+    ensures rows { rows.new ≡ after_seat_list G.meaning (board ceremony.now) rows.old }
 {
-    if let Phase::Unopened = ceremony.phase() {
+    if ceremony.phase() == Phase::Unopened {
         return Err(CeremonyFault::OutOfPhase { place: 0 });
     }
     let n = ceremony.n();
     if rows.len() < n as usize {
         return Err(CeremonyFault::SmallOutput);
     }
+    // By index, as rows in a lent slice are written here; the row k is that of seat k + 1.
     for k in 0..n {
         rows[k as usize] = row_of(ceremony, k + 1);
     }

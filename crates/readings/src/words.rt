@@ -10,16 +10,11 @@ use protocol::state::SeatState;
 pub fn word(state: SeatState) -> &'static [u8]
     ensures { result.now ≡ word_of state }
 {
-    match state {
-        SeatState::Absent => b"absent",
-        SeatState::Dealt => b"dealt",
-        SeatState::Out => b"out",
-        SeatState::Qualified => b"qualified",
-        SeatState::Contested => b"contested",
-    }
+    state.word().as_bytes()
 }
 
 // Writes the word of a state at the start of an output, and tells its length.
+#[tactic(auto, unfolding(protocol::specs::Readings::word_fault))]
 pub fn write_word(state: SeatState, out: &mut [u8]) -> Result<usize, CeremonyFault>
     ensures answer { result ≡ answer_of (word_fault state (length out.old)) (length (word_of state)) }
     ensures output { out.new ≡ after_word state out.old }

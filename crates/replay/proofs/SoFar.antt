@@ -1,5 +1,5 @@
 -- What the frames so far came to, and what is left.
-use Rattle.std.proofs.Common.{◌≡◌, ℕ, ◌+◌, ◌≤◌, true, List, [], ◌∷◌, length, take, drop, Some, None, Ok, Err, Option, Result, sym, refl, ap, ◌∙◌, subst, ap₂, zero-add, arith, length-drop, drop-drop}
+use Rattle.std.proofs.Common.{◌≡◌, ℕ, ◌+◌, ◌-◌, ◌≤◌, true, List, [], ◌∷◌, length, take, drop, Some, None, Ok, Err, Option, Result, sym, refl, ap, ◌∙◌, subst, ap₂, zero-add, arith, length-drop, drop-drop}
 use Rattle.group.specs.Meaning.{Meaning}
 use Rattle.protocol.specs.declared.kind.Kind.{Kind}
 use Rattle.protocol.specs.declared.kind.Kind.TheVariants as kinds
@@ -172,6 +172,41 @@ module _ (m : Meaning) (first now : State) (file : List ℕ) (at taken refused e
             few_refused = omega (arith, C.refusing, one.1, S.few_refused, fits.0);
           }
 
+  -- one frame is split off the rest, and posted
+  module _ (rest frame behind : List ℕ) (left : at ≡ length file - length rest) (is : rest ≡ drop at file) (whole : begins_whole rest ≡ true)
+      (frame_is : frame ≡ take (2 + length_field rest) rest) (behind_is : behind ≡ drop (2 + length_field rest) rest) where
+    abbrev size : ℕ
+    size = 2 + length_field rest
+
+    size_is : size ≡ 2 + length_field (drop at file)
+    size_is = ap (λ (l : List ℕ). 2 + length_field l) is
+
+    whole_at : begins_whole (drop at file) ≡ true
+    whole_at = sym (ap begins_whole is) ∙ whole
+
+    at_behind : length file - length behind ≡ at + size
+    at_behind =
+        let F = fits size whole_at size_is in
+        let l : length behind ≡ length rest - size = ap length behind_is ∙ length-drop size rest in
+        let n : length rest ≡ length file - at = ap length is ∙ length-drop at file in
+        omega (arith, F.1, S.within)
+
+    pub behind_there : behind ≡ drop (length file - length behind) file
+    behind_there =
+        behind_is ∙ ap (drop size) is ∙ drop-drop size at file ∙ ap (λ (n : ℕ). drop n file) (sym at_behind)
+
+    pub behind_within : length behind ≤ length file
+    behind_within =
+        let l : length behind ≡ length rest - size = ap length behind_is ∙ length-drop size rest in
+        let n : length rest ≡ length file - at = ap length is ∙ length-drop at file in
+        omega arith
+
+    pub posted_on : (r : Result ℕ CeremonyFault) (after : State) → Came m now frame r after
+        → SoFar m first after file (length file - length behind) (taken + taken_by r) (refused + refused_by r) (equations + tested_by r)
+    posted_on r after C =
+        subst (λ (n : ℕ). SoFar m first after file n (taken + taken_by r) (refused + refused_by r) (equations + tested_by r)) (sym at_behind)
+        (next size whole_at size_is r after (subst (λ (l : List ℕ). Came m now l r after) (frame_is ∙ ap (take size) is) C))
+
   -- where nothing is left to post
   module _ (none : frames_of (drop at file) ≡ []) where
     pub all_board : board_of m now ≡ replayed m (board_of m first) (frames_of file)
@@ -207,8 +242,3 @@ start m s file = record {
   few_taken = omega arith;
   few_refused = omega arith;
 }
-
--- the same counts by other terms
-pub recounted : (m : Meaning) (first now : State) (file : List ℕ) (at a b c x y z : ℕ) → x ≡ a → y ≡ b → z ≡ c → SoFar m first now file at a b c → SoFar m first now file at x y z
-recounted m first now file at a b c x y z e f g S =
-    subst (λ (n : ℕ). SoFar m first now file at n y z) (sym e) (subst (λ (n : ℕ). SoFar m first now file at a n z) (sym f) (subst (SoFar m first now file at a b) (sym g) S))

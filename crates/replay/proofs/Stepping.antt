@@ -70,6 +70,3 @@ pub none_broken : (place : ℕ) (bytes : List ℕ) → length bytes ≤ 0 → br
 unfolding broken_after
 none_broken place [] h = refl
 none_broken place (byte ∷ rest) h = absurd (omega arith)
-
-pub all_of_rest : (at : ℕ) (file : List ℕ) → take (length file - at) (drop at file) ≡ drop at file
-all_of_rest at file = ap (λ (n : ℕ). take n (drop at file)) (sym (length-drop at file)) ∙ take-length (drop at file)

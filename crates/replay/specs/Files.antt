@@ -1,5 +1,6 @@
 -- The records of a file, one after another, and what posting them comes to. Definitions.
-use Rattle.std.specs.Prelude.{◌≡◌, ℕ, zero, suc, ◌+◌, Bool, true, false, ◌&&◌, List, [], ◌∷◌, length, take, Some, None, Option, nat_le}
+use Rattle.std.specs.Prelude.{◌≡◌, ℕ, zero, suc, ◌+◌, Bool, true, false, ◌&&◌, List, [], ◌∷◌, length, take, drop, Some, None, Option, nat_le}
+use Rattle.std.specs.Borrow.{Bor}
 use Rattle.group.specs.Meaning.{Meaning}
 use Rattle.protocol.specs.declared.fault.CeremonyFault.{CeremonyFault}
 use Rattle.protocol.specs.Record.{length_field}
@@ -73,7 +74,8 @@ unfoldable pub area_replayed : Meaning → Area → List (List ℕ) → Area
 area_replayed m a [] = a
 area_replayed m a (bytes ∷ rest) = area_replayed m (area_after m a bytes) rest
 
--- the size of the frame that bytes begin with, where it is whole
-abbrev pub Whole : List ℕ → Option ℕ → Type 0
-Whole bytes None = begins_whole bytes ≡ false
-Whole bytes (Some size) = (begins_whole bytes ≡ true) × (size ≡ 2 + length_field bytes)
+-- the frame that bytes begin with, where it is whole, and the bytes behind it
+abbrev pub Splits : List ℕ → Option (Bor (List ℕ) × Bor (List ℕ)) → Type 0
+Splits bytes None = begins_whole bytes ≡ false
+Splits bytes (Some parts) =
+    (begins_whole bytes ≡ true) × (parts.0.now ≡ take (2 + length_field bytes) bytes) × (parts.1.now ≡ drop (2 + length_field bytes) bytes)

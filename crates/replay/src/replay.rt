@@ -1,18 +1,16 @@
 ghost use Rattle.std.specs.Prelude.{◌≡◌};
 ghost use Rattle.protocol.specs.Refusals.{replayed as board_replayed, equations_replayed};
-ghost use Rattle.board_index.specs.State.{board_of};
-ghost use Rattle.board_index.specs.Kept.{Kept};
-ghost use Rattle.board.specs.State.{state_of};
-ghost use Rattle.replay.specs.Files.{frames_of, broken_at, taken_of, refused_of, area_of, area_replayed, Whole};
+ghost use Rattle.board.specs.State.{board, state_of};
+ghost use Rattle.replay.specs.Files.{frames_of, broken_at, taken_of, refused_of, area_of, area_replayed, Splits};
 
 use crate::replayed::Replayed;
 use board::ceremony::Ceremony;
 use group::codes::read_code;
 use group::group::Group;
 
-// The size of the frame that bytes begin with, if it is whole.
-fn frame_size(bytes: &[u8]) -> Option<usize>
-    ensures { Whole bytes.now result }
+// The frame that bytes begin with, if it is whole, and the bytes behind it.
+fn split_frame(bytes: &[u8]) -> Option<(&[u8], &[u8])>
+    ensures { Splits bytes.now result }
 {
     if bytes.len() < 4 {
         return None;
@@ -21,51 +19,37 @@ fn frame_size(bytes: &[u8]) -> Option<usize>
     if length < 2 || bytes.len() < 2 + length {
         return None;
     }
-    Some(2 + length)
+    Some(bytes.split_at(2 + length))
 }
 
 // Posts the records of a file, and stops at the first frame that is broken.
 pub fn replay<G: Group>(ceremony: &mut Ceremony<'_, G>, file: &[u8]) -> Replayed
-    requires { Kept G.meaning (state_of ceremony.old) }
-    ensures board { board_of G.meaning (state_of ceremony.new) ≡ board_replayed G.meaning (board_of G.meaning (state_of ceremony.old)) (frames_of file.now) }
+    ensures board { board ceremony.new ≡ board_replayed G.meaning (board ceremony.old) (frames_of file.now) }
     ensures area { area_of (state_of ceremony.new) ≡ area_replayed G.meaning (area_of (state_of ceremony.old)) (frames_of file.now) }
-    ensures equations { result.equations ≡ equations_replayed G.meaning (board_of G.meaning (state_of ceremony.old)) (frames_of file.now) }
-    ensures taken { result.taken ≡ taken_of G.meaning (board_of G.meaning (state_of ceremony.old)) (frames_of file.now) }
-    ensures refused { result.refused ≡ refused_of G.meaning (board_of G.meaning (state_of ceremony.old)) (frames_of file.now) }
+    ensures equations { result.equations ≡ equations_replayed G.meaning (board ceremony.old) (frames_of file.now) }
+    ensures taken { result.taken ≡ taken_of G.meaning (board ceremony.old) (frames_of file.now) }
+    ensures refused { result.refused ≡ refused_of G.meaning (board ceremony.old) (frames_of file.now) }
     ensures broken { result.broken ≡ broken_at file.now }
-    ensures kept { Kept G.meaning (state_of ceremony.new) }
     ensures lender { ceremony.new.area.ghost_name ≡ ceremony.old.area.ghost_name }
 {
-    let mut at = 0;
-    let mut taken = 0;
-    let mut refused = 0;
-    let mut equations = 0;
-    while at < file.len() {
-        let rest = &file[at..];
-        let Some(size) = frame_size(rest) else {
-            return Replayed {
-                taken,
-                refused,
-                equations,
-                broken: Some(at),
-            };
+    let mut replayed = Replayed::default();
+    let mut rest = file;
+    while !rest.is_empty() {
+        let Some((record, behind)) = split_frame(rest) else {
+            replayed.broken = Some(file.len() - rest.len());
+            return replayed;
         };
-        match ceremony.post(&rest[..size]) {
+        match ceremony.post(record) {
             Ok(tested) => {
-                taken += 1;
-                equations += tested as usize;
+                replayed.taken += 1;
+                replayed.equations += tested as usize;
             }
             Err(fault) => {
-                refused += 1;
-                equations += fault.equations() as usize;
+                replayed.refused += 1;
+                replayed.equations += fault.equations() as usize;
             }
         }
-        at += size;
+        rest = behind;
     }
-    Replayed {
-        taken,
-        refused,
-        equations,
-        broken: None,
-    }
+    replayed
 }

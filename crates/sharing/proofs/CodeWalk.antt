@@ -17,6 +17,9 @@ pub place_after : (at k w : ℕ) → 0 < k → at + k * w ≡ at + (k - 1) * w +
 place_after at zero w h = absurd (omega arith)
 place_after at (suc k) w h = let before : suc k - 1 ≡ k = omega arith in rw before (omega (arith, suc-mul k w))
 
+pub place_next : (at k w : ℕ) → at + k * w + w ≡ at + (k + 1) * w
+place_next at k w = let one : k + 1 ≡ suc k = omega arith in omega (arith, suc-mul k w, ap (λ (x : ℕ). x * w) one)
+
 pub place_first : (at k w : ℕ) → k ≡ 0 → at + k * w ≡ at
 place_first at k w e = let none : k * w ≡ 0 = ap (λ (x : ℕ). x * w) e ∙ zero-mul w in omega arith
 
@@ -30,6 +33,12 @@ module _ (refusal : ℕ → Option GroupFault) (w : ℕ) where
 
   pub refused_later : (p left rest : ℕ) → left ≡ suc rest → refusal p ≡ None → refused_from refusal w p left ≡ refused_from refusal w (p + w) rest
   refused_later p left rest e h = refused_next p left rest e ∙ ap (λ r. first_of r (refused_from refusal w (p + w) rest)) h
+
+  -- the code k is taken, and those behind it are left
+  pub refused_behind : (at k count : ℕ) → k < count → refusal (at + k * w) ≡ None → refused_from refusal w (at + k * w) (count - k) ≡ refused_from refusal w (at + (k + 1) * w) (count - (k + 1))
+  refused_behind at k count h none =
+      let next : count - k ≡ suc (count - (k + 1)) = omega arith in
+      refused_later (at + k * w) (count - k) (count - (k + 1)) next none ∙ ap (λ (p : ℕ). refused_from refusal w p (count - (k + 1))) (place_next at k w)
 
   pub refused_none : (p left : ℕ) → left ≡ 0 → refused_from refusal w p left ≡ None
   unfolding refused_from

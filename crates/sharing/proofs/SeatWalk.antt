@@ -1,73 +1,63 @@
--- One seat more of a list of seats, taken from its end.
-use Rattle.std.proofs.Common.{◌≡◌, ℕ, zero, suc, ◌+◌, ◌-◌, ◌*◌, ◌%◌, ◌<◌, ◌≤◌, List, [], ◌∷◌, length, get_or, drop, sym, refl, ap, ◌∙◌, subst, arith, drop-cons}
-use lib.Seq.{drop-length}
-use Rattle.std.specs.List.{AllByRecursion}
+-- Walking over seats: what the seats still to come say, and what they add.
+use Rattle.std.proofs.Common.{◌≡◌, ℕ, zero, suc, ◌+◌, ◌*◌, ◌%◌, ◌<◌, ◌≤◌, Bool, true, false, eqb, ◌||◌, List, [], ◌∷◌, None, Option, length, get_or, drop, sym, refl, ap, ◌∙◌, ap₂, ⊎_elim, mod-lt, arith, drop-cons}
+use Rattle.std.proofs.lemmas.Bool.{cases_Bool, eqb-true, eq-eqb, false≢true}
+use Rattle.std.proofs.lemmas.List.{drop_all}
+use Rattle.std.specs.List.{AllByRecursion, list_any}
+use Rattle.group.specs.declared.fault.GroupFault.{GroupFault}
+use Rattle.group.specs.Monoid.{Monoid, Commutative}
+use Rattle.group.specs.ModularLaws.{mod_mul_assoc}
+use Rattle.group.specs.PowerLaws.{power_member}
+use Rattle.sharing.specs.Codes.{refused_from}
 use Rattle.sharing.specs.Linear.{scaled}
+use Rattle.sharing.specs.LinearLaws.{first_none}
 use Rattle.sharing.specs.Interpolation.{Seats, factor, weight, weighted, seats_of, entries_from}
-use Rattle.group.specs.Monoid.{Monoid}
 
 pub seat_low : (seats : List ℕ) → Seats seats → (k : ℕ) → k < length seats → get_or seats k 0 ≤ 32
 seat_low [] h k l = absurd (omega arith)
 seat_low (m ∷ ms) h zero l = h.1
 seat_low (m ∷ ms) h (suc k) l = seat_low ms h.3 k (omega arith)
 
--- the seats from k - 1 on
-from_before : (seats : List ℕ) (k : ℕ) → 0 < k → k ≤ length seats → drop (k - 1) seats ≡ get_or seats (k - 1) 0 ∷ drop k seats
-from_before seats k pos h =
-    let up : suc (k - 1) ≡ k = omega arith in
-    drop-cons seats (k - 1) 0 (omega arith) ∙ ap (λ (i : ℕ). get_or seats (k - 1) 0 ∷ drop i seats) up
+-- A seat differs from each of the later ones exactly where none of them is equal to it.
 
--- What holds of each seat from an index on.
+pub none_equal : (m : ℕ) (ms : List ℕ) → AllByRecursion (λ l. m ≡ l → ⊥) ms → list_any (λ l. eqb l m) ms ≡ false
+none_equal m [] h = refl
+none_equal m (l ∷ ms) h =
+    ⊎_elim
+    (λ (e : eqb l m ≡ true). absurd (h.0 (sym (eqb-true l m e))))
+    (λ (e : eqb l m ≡ false). ap₂ ◌||◌ e (none_equal m ms h.1))
+    (cases_Bool (eqb l m))
 
-pub all_none : (P : ℕ → Type 0) (seats : List ℕ) → AllByRecursion P (drop (length seats) seats)
-all_none P seats = subst (AllByRecursion P) (sym (drop-length seats)) tt
+pub all_differ : (m : ℕ) (ms : List ℕ) → list_any (λ l. eqb l m) ms ≡ false → AllByRecursion (λ l. m ≡ l → ⊥) ms
+all_differ m [] h = tt
+all_differ m (l ∷ ms) h =
+    ⊎_elim
+    (λ (e : eqb l m ≡ true). absurd (false≢true (sym h ∙ ap (λ (b : Bool). b || list_any (λ x. eqb x m) ms) e)))
+    (λ (e : eqb l m ≡ false).
+    ((λ same. false≢true (sym e ∙ eq-eqb l m (sym same))), all_differ m ms (sym (ap (λ (b : Bool). b || list_any (λ x. eqb x m) ms) e) ∙ h)))
+    (cases_Bool (eqb l m))
 
-pub all_before : (P : ℕ → Type 0) (seats : List ℕ) (k : ℕ) → 0 < k → k ≤ length seats → P (get_or seats (k - 1) 0) → AllByRecursion P (drop k seats) → AllByRecursion P (drop (k - 1) seats)
-all_before P seats k pos h here later = subst (AllByRecursion P) (sym (from_before seats k pos h)) (here, later)
+-- the seats from k on
+pub from_here : (seats : List ℕ) (k : ℕ) → k < length seats → drop k seats ≡ get_or seats k 0 ∷ drop (k + 1) seats
+from_here seats k h = let next : suc k ≡ k + 1 = omega arith in drop-cons seats k 0 h ∙ ap (λ (i : ℕ). get_or seats k 0 ∷ drop i seats) next
 
-pub all_at : (P : ℕ → Type 0) (seats : List ℕ) (start k : ℕ) → start ≤ k → k < length seats → AllByRecursion P (drop start seats) → P (get_or seats k 0)
-all_at P [] start k from h all = absurd (omega arith)
-all_at P (m ∷ ms) zero zero from h all = all.0
-all_at P (m ∷ ms) zero (suc k) from h all = all_at P ms zero k (omega arith) (omega arith) all.1
-all_at P (m ∷ ms) (suc start) zero from h all = absurd (omega arith)
-all_at P (m ∷ ms) (suc start) (suc k) from h all = all_at P ms start k (omega arith) (omega arith) all
+module _ (q : ℕ) (pos : 1 < q) where
+  pub weight_below : (seats : List ℕ) (m : ℕ) → weight q seats m < q
+  unfolding weight
+  weight_below [] m = pos
+  weight_below (l ∷ ls) m = mod-lt (factor q l m * weight q ls m) (omega arith)
 
-pub all_later : (P : ℕ → Type 0) (seats : List ℕ) (k start : ℕ) → k ≤ start → AllByRecursion P (drop k seats) → AllByRecursion P (drop start seats)
-all_later P [] k zero h all = tt
-all_later P [] k (suc start) h all = tt
-all_later P (m ∷ ms) zero zero h all = all
-all_later P (m ∷ ms) zero (suc start) h all = all_later P ms zero start (omega arith) all.1
-all_later P (m ∷ ms) (suc k) zero h all = absurd (omega arith)
-all_later P (m ∷ ms) (suc k) (suc start) h all = all_later P ms k start (omega arith) all
-
-pub seats_none : (seats : List ℕ) → Seats (drop (length seats) seats)
-seats_none seats = subst Seats (sym (drop-length seats)) tt
-
-pub seats_before : (seats : List ℕ) (k : ℕ) → 0 < k → k ≤ length seats
-    → 1 ≤ get_or seats (k - 1) 0 → get_or seats (k - 1) 0 ≤ 32 → AllByRecursion (λ l. get_or seats (k - 1) 0 ≡ l → ⊥) (drop k seats) → Seats (drop k seats)
-    → Seats (drop (k - 1) seats)
-seats_before seats k pos h low high differ later = subst Seats (sym (from_before seats k pos h)) (low, high, differ, later)
-
--- what different seats say of the one before the index k
-pub seats_at : (seats : List ℕ) (k : ℕ) → 0 < k → k ≤ length seats → Seats seats
-    → (1 ≤ get_or seats (k - 1) 0) × (get_or seats (k - 1) 0 ≤ 32) × AllByRecursion (λ l. get_or seats (k - 1) 0 ≡ l → ⊥) (drop k seats)
-seats_at seats k pos h all =
-    let here = subst Seats (from_before seats k pos h) (seats_drop (k - 1) seats all) in
-    (here.0, here.1, here.2)
-  where
-    seats_drop : (i : ℕ) (seats : List ℕ) → Seats seats → Seats (drop i seats)
-    seats_drop zero seats all = all
-    seats_drop (suc i) [] all = all
-    seats_drop (suc i) (m ∷ ms) all = seats_drop i ms all.3
-
-pub weight_none : (q : ℕ) (seats : List ℕ) (m : ℕ) → weight q (drop (length seats) seats) m ≡ 1
+-- what is multiplied so far, times the factors to come: the factor of the seat k passes from these to that
+pub weight_next : (q : ℕ) (seats : List ℕ) (m k p f : ℕ) → k < length seats → f ≡ factor q (get_or seats k 0) m
+    → ((p * f) % q * weight q (drop (k + 1) seats) m) % q ≡ (p * weight q (drop k seats) m) % q
 unfolding weight
-weight_none q seats m = ap (λ ls. weight q ls m) (drop-length seats)
+weight_next q seats m k p f h e =
+    mod_mul_assoc p f (weight q (drop (k + 1) seats) m) q
+    ∙ ap (λ (x : ℕ). (p * ((x * weight q (drop (k + 1) seats) m) % q)) % q) e
+    ∙ ap (λ ls. (p * weight q ls m) % q) (sym (from_here seats k h))
 
-pub weight_before : (q : ℕ) (seats : List ℕ) (m k : ℕ) → 0 < k → k ≤ length seats
-    → weight q (drop (k - 1) seats) m ≡ (factor q (get_or seats (k - 1) 0) m * weight q (drop k seats) m) % q
+pub weight_none : (q : ℕ) (seats : List ℕ) (m k : ℕ) → length seats ≤ k → weight q (drop k seats) m ≡ 1
 unfolding weight
-weight_before q seats m k pos h = ap (λ ls. weight q ls m) (from_before seats k pos h)
+weight_none q seats m k h = ap (λ ls. weight q ls m) (drop_all k seats h)
 
 module _ {V : Type 0} (sum : Monoid V) (decoded : ℕ → V) (w : ℕ) where
   pub seats_of_entries : (at : ℕ) (seats : List ℕ) → seats_of (entries_from decoded w at seats) ≡ seats
@@ -75,12 +65,20 @@ module _ {V : Type 0} (sum : Monoid V) (decoded : ℕ → V) (w : ℕ) where
   seats_of_entries at [] = refl
   seats_of_entries at (m ∷ ms) = ap (λ ls. m ∷ ls) (seats_of_entries (at + w) ms)
 
-  pub weighted_none : (weights : ℕ → ℕ) (at : ℕ) (seats : List ℕ) → weighted sum weights (entries_from decoded w at (drop (length seats) seats)) ≡ sum.unit
+  pub weighted_none : (weights : ℕ → ℕ) (at : ℕ) (seats : List ℕ) (k : ℕ) → length seats ≤ k → weighted sum weights (entries_from decoded w at (drop k seats)) ≡ sum.unit
   unfolding weighted entries_from
-  weighted_none weights at seats = ap (λ ls. weighted sum weights (entries_from decoded w at ls)) (drop-length seats)
+  weighted_none weights at seats k h = ap (λ ls. weighted sum weights (entries_from decoded w at ls)) (drop_all k seats h)
 
-  pub weighted_before : (weights : ℕ → ℕ) (at : ℕ) (seats : List ℕ) (k : ℕ) → 0 < k → k ≤ length seats
-      → weighted sum weights (entries_from decoded w at (drop (k - 1) seats))
-      ≡ sum.op (scaled sum (weights (get_or seats (k - 1) 0)) (decoded at)) (weighted sum weights (entries_from decoded w (at + w) (drop k seats)))
+  pub weighted_here : (weights : ℕ → ℕ) (at : ℕ) (seats : List ℕ) (k : ℕ) → k < length seats
+      → weighted sum weights (entries_from decoded w at (drop k seats))
+      ≡ sum.op (scaled sum (weights (get_or seats k 0)) (decoded at)) (weighted sum weights (entries_from decoded w (at + w) (drop (k + 1) seats)))
   unfolding weighted entries_from
-  weighted_before weights at seats k pos h = ap (λ ls. weighted sum weights (entries_from decoded w at ls)) (from_before seats k pos h)
+  weighted_here weights at seats k h = ap (λ ls. weighted sum weights (entries_from decoded w at ls)) (from_here seats k h)
+
+  pub weighted_member : {member : V → Bool} → Commutative member sum → (refusal : ℕ → Option GroupFault) → ((at : ℕ) → refusal at ≡ None → member (decoded at) ≡ true)
+      → (weights : ℕ → ℕ) (at : ℕ) (seats : List ℕ) → refused_from refusal w at (length seats) ≡ None → member (weighted sum weights (entries_from decoded w at seats)) ≡ true
+  unfolding weighted entries_from refused_from
+  weighted_member laws refusal judged weights at [] e = laws.unit_member
+  weighted_member laws refusal judged weights at (m ∷ ms) e =
+      let none = first_none (refusal at) (refused_from refusal w (at + w) (length ms)) e in
+      laws.closed _ _ (power_member laws (decoded at) (weights m) (judged at none.0)) (weighted_member laws refusal judged weights (at + w) ms none.1)

@@ -72,7 +72,7 @@ pair_length encoded_a encoded_b l r v =
 
 taken_by_lem : {X : Type 0} (b : Bool) (fault : X) → ◌≡◌ {A = Option X} (cond b None (Some fault)) None → b ≡ true
 taken_by_lem true fault e = refl
-taken_by_lem false fault e = let z : ◌≡◌ {A = ℕ} 0 1 = cc in absurd (omega arith)
+taken_by_lem false fault e = cc
 
 pub element_judged : (m : Meaning) (bytes : List ℕ) (at : ℕ) → element_refused m bytes at ≡ None → m.member (code_at bytes m.w at) ≡ true
 element_judged m bytes at e = taken_by_lem (m.member (code_at bytes m.w at)) _ e
@@ -81,7 +81,7 @@ pub scalar_judged : (m : Meaning) (bytes : List ℕ) (at : ℕ) → scalar_refus
 scalar_judged m bytes at e = taken_by_lem (nat_lt (code_at bytes m.s at) m.q) _ e
 
 pub first_none : (x y : Option GroupFault) → first_of x y ≡ None → (x ≡ None) × (y ≡ None)
-first_none (Some fault) y e = let z : ◌≡◌ {A = ℕ} 0 1 = cc in absurd (omega arith)
+first_none (Some fault) y e = absurd (cc)
 first_none None y e = (refl, e)
 
 -- what is said against a code, and the value that it spells, where nothing is said against it

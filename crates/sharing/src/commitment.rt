@@ -1,13 +1,7 @@
 // Pedersen commitments to shares, and the equation that a share is tested by.
-ghost use Rattle.std.specs.Prelude.{◌≡◌, ◌+◌, ◌*◌, ◌≤◌, length, None};
-ghost use Rattle.group.specs.Code.{code_at};
-ghost use Rattle.group.specs.Meaning.{products};
-ghost use Rattle.sharing.specs.Value.{value_at};
-ghost use Rattle.sharing.specs.Codes.{decoded_from, refused_from, element_refused};
+ghost use Rattle.std.specs.Prelude.{◌≡◌};
 ghost use Rattle.sharing.specs.Commitment.{commitment};
 
-use crate::element::Element;
-use crate::evaluation::value_of_known;
 use crate::pair::Pair;
 use crate::scalar::Scalar;
 use group::group::Group;

@@ -13,13 +13,25 @@ use group::group::Group;
 use group::powers::power_of;
 use std::marker::PhantomData;
 
+// E is a parameter, since a struct that holds an associated type cannot be `Copy`.
 #[derive_where(Clone, Copy; E)]
 pub struct Element<G, E> {
     pub value: E,
     pub of: PhantomData<G>,
 }
 
-impl<E: Copy, G: Group<Element = E>> Linear<G> for Element<G, E> {
+impl<G, E> Element<G, E> {
+    fn new(value: E) -> Element<G, E>
+        ensures { result.value ≡ value }
+    {
+        Element {
+            value,
+            of: PhantomData,
+        }
+    }
+}
+
+impl<E: Copy + PartialEq, G: Group<Element = E>> Linear<G> for Element<G, E> {
     ghost Value = { ℕ };
 
     ghost of = { λ x. G.Group.number_of x.value };
@@ -44,44 +56,30 @@ impl<E: Copy, G: Group<Element = E>> Linear<G> for Element<G, E> {
 
     ghost judged = { element_judged G.Group.meaning };
 
+    ghost exponent = { G.Group.lawful.order };
+
     fn zero() -> Element<G, E> {
-        Element {
-            value: G::unit(),
-            of: PhantomData,
-        }
+        Element::new(G::unit())
     }
 
     fn add(self, other: Element<G, E>) -> Element<G, E> {
-        Element {
-            value: G::product(self.value, other.value),
-            of: PhantomData,
-        }
+        Element::new(G::product(self.value, other.value))
     }
 
     fn scale(self, by: G::Scalar) -> Element<G, E> {
-        Element {
-            value: power_of::<G>(self.value, by),
-            of: PhantomData,
-        }
+        Element::new(power_of::<G>(self.value, by))
     }
 
     fn code_width() -> usize {
-        G::width()
+        G::W
     }
 
     fn read(codes: &[u8], at: usize) -> Result<Element<G, E>, GroupFault> {
-        let value = read_element::<G>(codes, at)?;
-        Ok(Element {
-            value,
-            of: PhantomData,
-        })
+        Ok(Element::new(read_element::<G>(codes, at)?))
     }
 
     fn known(codes: &[u8], at: usize) -> Element<G, E> {
-        Element {
-            value: G::known_element(read_code(codes, at, G::width())),
-            of: PhantomData,
-        }
+        Element::new(G::known_element(read_code(codes, at, G::W)))
     }
 
     fn write(self, out: &mut [u8], at: usize) {

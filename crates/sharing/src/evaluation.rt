@@ -17,10 +17,9 @@ pub fn judge_codes<G: Group, L: Linear<G>>(
     requires { at + count * L.width ≤ length codes.now }
     ensures { Judges (refused_from (L.refusal codes.now) L.width at count) result }
 {
-    let mut place = at;
-    for _k in 0..count {
-        L::read(codes, place)?;
-        place += L::code_width();
+    // By index: the place of a refused code is told.
+    for k in 0..count {
+        L::read(codes, at + k * L::code_width())?;
     }
     Ok(())
 }
@@ -33,6 +32,7 @@ pub fn value_of_known<G: Group, L: Linear<G>>(codes: &[u8], at: usize, count: us
 {
     let j = G::reduced(seat as u32);
     let mut value = L::zero();
+    // By index: what a code says depends on its place in the bytes, also in `known`.
     for k in (0..count).rev() {
         let coefficient = L::known(codes, at + k * L::code_width());
         value = coefficient.add(value.scale(j));

@@ -27,7 +27,7 @@ pub fn factor_of<G: Group>(l: u8, m: u8) -> G::Scalar
     }
     match G::invert(difference_of::<G>(l, m)) {
         Some(inverse) => G::multiply(G::reduced(l as u32), inverse),
-        None => unreachable(),
+        None => unreachable!(),
     }
 }
 
@@ -37,8 +37,8 @@ pub fn weight_of<G: Group>(seats: &[u8], m: u8) -> G::Scalar
     ensures { G.scalar_of result ≡ weight G.meaning.q seats.now m }
 {
     let mut product = G::reduced(1);
-    for k in (0..seats.len()).rev() {
-        product = G::multiply(factor_of::<G>(seats[k], m), product);
+    for l in seats {
+        product = G::multiply(product, factor_of::<G>(*l, m));
     }
     product
 }
@@ -51,9 +51,10 @@ pub fn interpolate_known<G: Group, L: Linear<G>>(seats: &[u8], codes: &[u8], at:
     ensures { L.of result ≡ interpolated L.sum G.Group.meaning.q (entries_from (L.decoded codes.now) L.width at seats.now) }
 {
     let mut sum = L::zero();
-    for k in (0..seats.len()).rev() {
+    // The index tells the place of the entry's code, on which depends what the code says.
+    for (k, m) in seats.iter().enumerate() {
         let entry = L::known(codes, at + k * L::code_width());
-        sum = entry.scale(weight_of::<G>(seats, seats[k])).add(sum);
+        sum = sum.add(entry.scale(weight_of::<G>(seats, *m)));
     }
     sum
 }

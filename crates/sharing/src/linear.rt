@@ -35,10 +35,9 @@ pub trait Linear<G: Group>: Copy {
 
     ghost judged: { (bytes : List ℕ) (at : ℕ) → refusal bytes at ≡ None → member (decoded bytes at) ≡ true };
 
-    // The unit of the sum. That scalars count modulo q is a law too, and stands here since only a call's contract can name q.
+    // The unit of the sum.
     fn zero() -> Self
-        ensures value { of result ≡ sum.unit }
-        ensures exponent { Exponent G.Group.meaning.q member sum };
+        ensures { of result ≡ sum.unit };
 
     fn add(self, other: Self) -> Self
         ensures { of result ≡ sum.op (of self) (of other) };
@@ -63,4 +62,7 @@ pub trait Linear<G: Group>: Copy {
     fn write(self, out: &mut [u8], at: usize)
         requires { at + width ≤ length out.old }
         ensures { out.new ≡ paste out.old at (encoded (of self)) width };
+
+    // Scalars count modulo q.
+    ghost exponent: { Exponent G.Group.meaning.q member sum };
 }

@@ -3,7 +3,7 @@ ghost use Rattle.std.specs.Prelude.{◌≡◌, ℕ, ◌+◌, true, List, ◌++�
 ghost use Rattle.std.proofs.lemmas.Bool.{and_from};
 ghost use Rattle.sharing.specs.Linear.{pair_sum, both_members};
 ghost use Rattle.sharing.specs.Codes.{first_of};
-ghost use Rattle.sharing.specs.LinearLaws.{pair_commutative, pair_judged, pair_length};
+ghost use Rattle.sharing.specs.LinearLaws.{pair_commutative, pair_exponent, pair_judged, pair_length};
 
 use crate::linear::Linear;
 use group::fault::GroupFault;
@@ -39,6 +39,8 @@ impl<G: Group, A: Linear<G>, B: Linear<G>> Linear<G> for Pair<A, B> {
     ghost decoded = { λ bytes at. (A.Linear.decoded bytes at, B.Linear.decoded bytes (at + A.Linear.width)) };
 
     ghost judged = { pair_judged A.Linear.member B.Linear.member A.Linear.refusal B.Linear.refusal A.Linear.decoded B.Linear.decoded A.Linear.width A.Linear.judged B.Linear.judged };
+
+    ghost exponent = { pair_exponent A.Linear.member B.Linear.member A.Linear.sum B.Linear.sum G.Group.meaning.q A.Linear.exponent B.Linear.exponent };
 
     fn zero() -> Pair<A, B> {
         Pair {

@@ -5,7 +5,7 @@ ghost use Rattle.group.specs.Code.{code, code_at};
 ghost use Rattle.group.specs.CodeLaws.{code_length};
 ghost use Rattle.sharing.specs.Linear.{scalar_sum};
 ghost use Rattle.sharing.specs.Codes.{scalar_refused};
-ghost use Rattle.sharing.specs.LinearLaws.{scalar_commutative, scalar_judged};
+ghost use Rattle.sharing.specs.LinearLaws.{scalar_commutative, scalar_exponent, scalar_judged};
 
 use crate::linear::Linear;
 use group::codes::{read_code, read_scalar, write_scalar};
@@ -13,10 +13,22 @@ use group::fault::GroupFault;
 use group::group::Group;
 use std::marker::PhantomData;
 
+// S is a parameter, since a struct that holds an associated type cannot be `Copy`.
 #[derive_where(Clone, Copy; S)]
 pub struct Scalar<G, S> {
     pub value: S,
     pub of: PhantomData<G>,
+}
+
+impl<G, S> Scalar<G, S> {
+    fn new(value: S) -> Scalar<G, S>
+        ensures { result.value ≡ value }
+    {
+        Scalar {
+            value,
+            of: PhantomData,
+        }
+    }
 }
 
 impl<S: Copy, G: Group<Scalar = S>> Linear<G> for Scalar<G, S> {
@@ -44,44 +56,30 @@ impl<S: Copy, G: Group<Scalar = S>> Linear<G> for Scalar<G, S> {
 
     ghost judged = { scalar_judged G.Group.meaning };
 
+    ghost exponent = { scalar_exponent G.Group.meaning.q };
+
     fn zero() -> Scalar<G, S> {
-        Scalar {
-            value: G::reduced(0),
-            of: PhantomData,
-        }
+        Scalar::new(G::reduced(0))
     }
 
     fn add(self, other: Scalar<G, S>) -> Scalar<G, S> {
-        Scalar {
-            value: G::add(self.value, other.value),
-            of: PhantomData,
-        }
+        Scalar::new(G::add(self.value, other.value))
     }
 
     fn scale(self, by: S) -> Scalar<G, S> {
-        Scalar {
-            value: G::multiply(by, self.value),
-            of: PhantomData,
-        }
+        Scalar::new(G::multiply(by, self.value))
     }
 
     fn code_width() -> usize {
-        G::scalar_width()
+        G::S
     }
 
     fn read(codes: &[u8], at: usize) -> Result<Scalar<G, S>, GroupFault> {
-        let value = read_scalar::<G>(codes, at)?;
-        Ok(Scalar {
-            value,
-            of: PhantomData,
-        })
+        Ok(Scalar::new(read_scalar::<G>(codes, at)?))
     }
 
     fn known(codes: &[u8], at: usize) -> Scalar<G, S> {
-        Scalar {
-            value: G::reduced(read_code(codes, at, G::scalar_width())),
-            of: PhantomData,
-        }
+        Scalar::new(G::reduced(read_code(codes, at, G::S)))
     }
 
     fn write(self, out: &mut [u8], at: usize) {

@@ -9,9 +9,7 @@ use sharing::linear::Linear;
 // For everything that can be added and scaled: the values of t + 1 coefficients at t + 1 different seats interpolate to the first coefficient.
 pub fn values_interpolate<G: Group, L: Linear<G>>()
     ensures { Interpolates G.Group.meaning.q L.Linear.member L.Linear.sum }
-{
-    let _zero = L::zero();
-}
+{}
 
 // Shares that open the values of the commitments at their seats interpolate to an opening of the first commitment.
 pub fn openings_interpolate()

@@ -1,7 +1,7 @@
 // The values at t + 1 different seats interpolate to the first coefficient: of scalars, of elements and of pairs.
-ghost use Rattle.std.specs.Prelude.{◌≤◌};
+ghost use Rattle.std.specs.Prelude.{◌<◌, ◌≤◌};
 
-use super::sample::{fill_elements, fill_scalars};
+use super::sample::{element_codes, scalar_codes};
 use binary_polynomials::BinaryPolynomials;
 use group::group::Group;
 use residues::Residues;
@@ -12,57 +12,40 @@ use sharing::interpolation::interpolate;
 use sharing::linear::Linear;
 use sharing::scalar::Scalar;
 use sharing::seats::are_different_seats;
+use std::array;
 use std::process::Abort;
 use std::test::Fail;
 
 // Different seats, since an odd step comes round only after 32.
 fn pick_seats(start: u32, step: u32) -> [u8; 16] {
-    let mut seats = [0; 16];
-    let mut n = start;
-    for k in 0..16usize {
-        seats[k] = (n % 32 + 1) as u8;
-        n = n.wrapping_add(step);
-    }
-    seats
+    array::from_fn(|k| (start.wrapping_add(step.wrapping_mul(k as u32)) % 32 + 1) as u8)
 }
 
-// Writes the values at the seats as codes one after another, as far as they have room.
-fn write_values<G: Group, L: Linear<G>>(
-    codes: &[u8; 128],
-    seats: &[u8],
-    values: &mut [u8],
-) -> Result<(), Fail>
-    requires { L.width ≤ 8 }
+// The codes of the values at the seats, one after another.
+fn values_at<G: Group, L: Linear<G>>(codes: &[u8; 128], seats: &[u8]) -> Result<[u8; 128], Fail>
+    requires from { 0 < L.width }
+    requires to { L.width ≤ 8 }
 {
     if seats.len() > 16 {
         return Err(Fail::new("more than 16 seats"));
     }
-    let mut place = 0;
-    for seat in seats {
-        let value = evaluate::<G, L>(codes, 0, seats.len(), *seat)?;
-        if place > values.len() || values.len() - place < L::code_width() {
-            return Err(Fail::new("no room"));
-        }
-        value.write(values, place);
-        place += L::code_width();
+    let mut values = [0; 128];
+    for (value, seat) in values.chunks_exact_mut(L::code_width()).zip(seats) {
+        evaluate::<G, L>(codes, 0, seats.len(), *seat)?.write(value, 0);
     }
-    Ok(())
+    Ok(values)
 }
 
-// Writes what the codes of some seats interpolate to.
-fn write_recovered<G: Group, L: Linear<G>>(
-    values: &[u8; 128],
-    seats: &[u8],
-    recovered: &mut [u8; 8],
-) -> Result<(), Fail>
+// The code of what the values at some seats interpolate to.
+fn recovered<G: Group, L: Linear<G>>(values: &[u8; 128], seats: &[u8]) -> Result<[u8; 8], Fail>
     requires { L.width ≤ 8 }
 {
     if seats.len() > 16 || !are_different_seats(seats) {
         return Err(Fail::new("these are not up to 16 different seats"));
     }
-    let value = interpolate::<G, L>(seats, values, 0)?;
-    value.write(recovered, 0);
-    Ok(())
+    let mut code = [0; 8];
+    interpolate::<G, L>(seats, values, 0)?.write(&mut code, 0);
+    Ok(code)
 }
 
 fn check_recovery<G: Group, L: Linear<G>>(
@@ -71,50 +54,52 @@ fn check_recovery<G: Group, L: Linear<G>>(
     codes: &[u8; 128],
     seats: &[u8],
 ) -> Result<(), Fail>
-    requires { L.width ≤ 8 }
+    requires from { 0 < L.width }
+    requires to { L.width ≤ 8 }
 {
-    let mut values = [0; 128];
-    write_values::<G, L>(codes, seats, &mut values)?;
-    let mut recovered = [0; 8];
-    write_recovered::<G, L>(&values, seats, &mut recovered)?;
+    let values = values_at::<G, L>(codes, seats)?;
+    let code = recovered::<G, L>(&values, seats)?;
     let width = L::code_width();
-    for k in 0..width {
-        assert_eq!(rt; recovered[k], codes[k], "{} at {} seats", what, seats.len());
-    }
+    assert_eq!(rt;
+        &code[..width],
+        &codes[..width],
+        "{} at {} seats",
+        what,
+        seats.len()
+    );
     Ok(())
 }
 
 // Scalars, elements and pairs, at the first seats of a row.
-fn check_seats<G: Group>(rt: &impl Abort, start: u32, seats: &[u8]) -> Result<(), Fail> {
-    let mut scalars = [0; 128];
-    fill_scalars::<G>(start, &mut scalars);
+fn check_seats<G: Group>(rt: &impl Abort, seed: u32, seats: &[u8]) -> Result<(), Fail> {
+    let scalars = scalar_codes::<G, 128>(seed);
     check_recovery::<G, Scalar<G, G::Scalar>>(rt, "scalars", &scalars, seats)?;
     check_recovery::<G, Share<G>>(rt, "pairs", &scalars, seats)?;
-    let mut elements = [0; 128];
-    fill_elements::<G>(start, &mut elements);
+    let elements = element_codes::<G, 128>(seed);
     check_recovery::<G, Element<G, G::Element>>(rt, "elements", &elements, seats)
 }
 
 fn check_thresholds<G: Group>(rt: &impl Abort, start: u32, step: u32) -> Result<(), Fail> {
     let seats = pick_seats(start, step);
-    for t in 0..16usize {
-        check_seats::<G>(rt, start.wrapping_add(t as u32), &seats[0..t + 1])?;
+    for t in 0..16 {
+        check_seats::<G>(rt, start.wrapping_add(t as u32), &seats[..=t])?;
+    }
+    Ok(())
+}
+
+fn check_starts<G: Group>(rt: &impl Abort) -> Result<(), Fail> {
+    for start in 0..8 {
+        check_thresholds::<G>(rt, start * 5, start * 2 + 1)?;
     }
     Ok(())
 }
 
 #[test]
 fn residues_recovered(rt: HostRuntime) -> Result<(), Fail> {
-    for start in 0..8u32 {
-        check_thresholds::<Residues>(&rt, start * 5, start * 2 + 1)?;
-    }
-    Ok(())
+    check_starts::<Residues>(&rt)
 }
 
 #[test]
 fn polynomials_recovered(rt: HostRuntime) -> Result<(), Fail> {
-    for start in 0..8u32 {
-        check_thresholds::<BinaryPolynomials>(&rt, start * 5, start * 2 + 1)?;
-    }
-    Ok(())
+    check_starts::<BinaryPolynomials>(&rt)
 }

@@ -1,5 +1,5 @@
 // What testing a share refuses: first wrong lengths, then codes of the commitments, then those of the share.
-use super::sample::{fill_elements, fill_scalars};
+use super::sample::{element_codes, scalar_codes};
 use binary_polynomials::BinaryPolynomials;
 use dealing::fault::DealingFault;
 use dealing::trial::test_share;
@@ -8,7 +8,6 @@ use group::fault::GroupFault;
 use group::group::Group;
 use residues::Residues;
 use std::process::Abort;
-use std::test::Fail;
 
 // Four commitments and a share, of which the first bytes are handed over.
 fn check_refused<G: Group>(
@@ -17,92 +16,74 @@ fn check_refused<G: Group>(
     commitments: &[u8],
     share: &[u8],
     fault: DealingFault,
-) -> Result<(), Fail> {
-    assert_eq!(rt;
-        test_share::<G>(3, commitments, share, 32),
-        Err(fault),
-        "{}",
-        what
+) {
+    let tested = test_share::<G>(3, commitments, share, 32);
+    assert_eq!(rt; tested, Err(fault), "{}", what);
+}
+
+fn check_lengths<G: Group>(rt: &impl Abort, commitments: &[u8; 64], share: &[u8; 12]) {
+    let w = 4 * G::W;
+    let s = 2 * G::S;
+    assert!(rt; test_share::<G>(3, &commitments[..w], &share[..s], 32).is_ok());
+    for (what, commitments, share) in [
+        ("few commitments", &commitments[..w - 1], &share[..s]),
+        ("many commitments", &commitments[..w + 1], &share[..s]),
+        ("a short share", &commitments[..w], &share[..s - 1]),
+        ("a long share", &commitments[..w], &share[..s + 1]),
+    ] {
+        check_refused::<G>(rt, what, commitments, share, DealingFault::Length);
+    }
+}
+
+fn no_candidate(place: usize) -> DealingFault {
+    DealingFault::Code(GroupFault::NoCandidate { place })
+}
+
+fn check_codes<G: Group>(rt: &impl Abort, mut commitments: [u8; 64], mut share: [u8; 12], q: u32) {
+    let w = G::W;
+    let s = G::S;
+    write_code(&mut share, s, s, q);
+    check_refused::<G>(
+        rt,
+        "s'",
+        &commitments[..4 * w],
+        &share[..2 * s],
+        no_candidate(s),
     );
-    Ok(())
-}
-
-fn check_lengths<G: Group>(
-    rt: &impl Abort,
-    commitments: &[u8; 64],
-    share: &[u8; 12],
-) -> Result<(), Fail> {
-    let w = 4 * G::width();
-    let s = 2 * G::scalar_width();
-    let fault = DealingFault::Length;
-    assert!(rt; test_share::<G>(3, &commitments[0..w], &share[0..s], 32).is_ok());
+    write_code(&mut share, 0, s, q);
     check_refused::<G>(
         rt,
-        "few commitments",
-        &commitments[0..w - 1],
-        &share[0..s],
-        fault,
-    )?;
+        "s",
+        &commitments[..4 * w],
+        &share[..2 * s],
+        no_candidate(0),
+    );
+    write_code(&mut commitments, 3 * w, w, 0);
     check_refused::<G>(
         rt,
-        "many commitments",
-        &commitments[0..w + 1],
-        &share[0..s],
-        fault,
-    )?;
-    check_refused::<G>(
-        rt,
-        "a short share",
-        &commitments[0..w],
-        &share[0..s - 1],
-        fault,
-    )?;
-    check_refused::<G>(
-        rt,
-        "a long share",
-        &commitments[0..w],
-        &share[0..s + 1],
-        fault,
-    )
-}
-
-fn check_codes<G: Group>(
-    rt: &impl Abort,
-    commitments: &mut [u8; 64],
-    share: &mut [u8; 12],
-    q: u32,
-) -> Result<(), Fail> {
-    let w = G::width();
-    let s = G::scalar_width();
-    let right = DealingFault::Code(GroupFault::NoCandidate { place: s });
-    let left = DealingFault::Code(GroupFault::NoCandidate { place: 0 });
-    let last = DealingFault::Code(GroupFault::NoCandidate { place: 3 * w });
-    write_code(share, s, s, q);
-    check_refused::<G>(rt, "s'", &commitments[0..4 * w], &share[0..2 * s], right)?;
-    write_code(share, 0, s, q);
-    check_refused::<G>(rt, "s", &commitments[0..4 * w], &share[0..2 * s], left)?;
-    write_code(commitments, 3 * w, w, 0);
-    check_refused::<G>(rt, "C_3", &commitments[0..4 * w], &share[0..2 * s], last)?;
+        "C_3",
+        &commitments[..4 * w],
+        &share[..2 * s],
+        no_candidate(3 * w),
+    );
     check_refused::<G>(
         rt,
         "length first",
-        &commitments[0..4 * w],
-        &share[0..s],
+        &commitments[..4 * w],
+        &share[..s],
         DealingFault::Length,
-    )
+    );
 }
 
-fn check_trials<G: Group>(rt: &impl Abort, q: u32) -> Result<(), Fail> {
-    let mut commitments = [0; 64];
-    fill_elements::<G>(q, &mut commitments);
-    let mut share = [0; 12];
-    fill_scalars::<G>(q, &mut share);
-    check_lengths::<G>(rt, &commitments, &share)?;
-    check_codes::<G>(rt, &mut commitments, &mut share, q)
+fn check_trials<G: Group>(rt: &impl Abort, q: u32) {
+    let commitments = element_codes::<G, 64>(q);
+    let share = scalar_codes::<G, 12>(q);
+    check_lengths::<G>(rt, &commitments, &share);
+    check_codes::<G>(rt, commitments, share, q);
 }
 
 #[test]
-fn trials_refused(rt: HostRuntime) -> Result<(), Fail> {
-    check_trials::<Residues>(&rt, 1019)?;
-    check_trials::<BinaryPolynomials>(&rt, 131071)
+fn trials_refused(rt: HostRuntime) {
+    check_trials::<Residues>(&rt, 1019);
+    check_trials::<BinaryPolynomials>(&rt, 131071);
 }

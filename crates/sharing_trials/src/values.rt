@@ -1,38 +1,33 @@
 // Values on a polynomial against sums of plain numbers.
 ghost use Rattle.std.specs.Prelude.{◌<◌, ◌≤◌};
 
-use super::sample::next_number;
 use binary_polynomials::BinaryPolynomials;
 use group::codes::write_code;
 use group::group::Group;
 use residues::Residues;
+use samples::numbers::Numbers;
 use sharing::evaluation::evaluate;
 use sharing::scalar::Scalar;
+use std::array;
 use std::process::Abort;
 use std::test::Fail;
 
-fn sample_numbers(start: u32, q: u32) -> [u32; 16]
+fn sample_numbers(seed: u32, q: u32) -> [u32; 16]
     requires { 0 < q }
 {
-    let mut numbers = [0; 16];
-    let mut n = start;
-    for k in 0..16usize {
-        n = next_number(n);
-        numbers[k] = n / 8 % q;
-    }
-    numbers
+    let mut numbers = Numbers::from_seed(seed);
+    array::from_fn(|_| numbers.draw() / 8 % q)
 }
 
-// Writes the numbers as codes one after another, as far as they have room.
-fn write_numbers(numbers: &[u32; 16], width: usize, codes: &mut [u8]) {
-    let mut place = 0;
-    for n in numbers {
-        if place > codes.len() || codes.len() - place < width {
-            return;
-        }
-        write_code(codes, place, width, *n);
-        place += width;
+// The codes of the numbers one after another.
+fn codes_of(numbers: &[u32; 16], width: usize) -> [u8; 64]
+    requires { 0 < width }
+{
+    let mut codes = [0; 64];
+    for (code, n) in codes.chunks_exact_mut(width).zip(numbers) {
+        write_code(code, 0, width, *n);
     }
+    codes
 }
 
 // The sum of j^k·v_k over the first coefficients, term by term.
@@ -50,17 +45,16 @@ fn plain_value(numbers: &[u32], seat: u8, q: u64) -> u64
 
 // The values at every seat of a polynomial with `count` coefficients.
 fn check_values<G: Group>(rt: &impl Abort, q: u32, count: usize) -> Result<(), Fail>
-    requires { (0 < q) × (count ≤ 16) }
+    requires q { 0 < q }
+    requires count { count ≤ 16 }
 {
     let numbers = sample_numbers(count as u32, q);
-    let mut codes = [0u8; 64];
-    write_numbers(&numbers, G::scalar_width(), &mut codes);
-    for seat in 1..33u8 {
+    let codes = codes_of(&numbers, G::S);
+    for seat in 1..33 {
         let value = evaluate::<G, Scalar<G, G::Scalar>>(&codes, 0, count, seat)?;
-        let expected = plain_value(&numbers[0..count], seat, u64::from(q));
         assert_eq!(rt;
             u64::from(G::scalar_number(value.value)),
-            expected,
+            plain_value(&numbers[..count], seat, u64::from(q)),
             "{} coefficients at {}",
             count,
             seat
@@ -69,18 +63,21 @@ fn check_values<G: Group>(rt: &impl Abort, q: u32, count: usize) -> Result<(), F
     Ok(())
 }
 
-#[test]
-fn residue_values(rt: HostRuntime) -> Result<(), Fail> {
-    for t in 0..16usize {
-        check_values::<Residues>(&rt, 1019, t + 1)?;
+fn check_counts<G: Group>(rt: &impl Abort, q: u32) -> Result<(), Fail>
+    requires { 0 < q }
+{
+    for count in 1..17 {
+        check_values::<G>(rt, q, count)?;
     }
     Ok(())
 }
 
 #[test]
+fn residue_values(rt: HostRuntime) -> Result<(), Fail> {
+    check_counts::<Residues>(&rt, 1019)
+}
+
+#[test]
 fn polynomial_values(rt: HostRuntime) -> Result<(), Fail> {
-    for t in 0..16usize {
-        check_values::<BinaryPolynomials>(&rt, 131071, t + 1)?;
-    }
-    Ok(())
+    check_counts::<BinaryPolynomials>(&rt, 131071)
 }

@@ -13,14 +13,12 @@ pub(super) fn coded(n: u32, width: usize) -> [u8; 8]
     requires { width ≤ 4 }
 {
     let mut bytes = [0xAA; 8];
-    let spelled = n.to_le_bytes();
-    for k in 0..width {
-        bytes[PLACE + k] = spelled[k];
-    }
+    bytes[PLACE..PLACE + width].copy_from_slice(&n.to_le_bytes()[..width]);
     bytes
 }
 
-// The number of the element whose code stands at the place.
+// The number of the element whose code stands at the place. It and the next differ in the group's calls alone: a trait for
+// both would be longer than they are.
 pub(super) fn element_read<G: Group>(bytes: &[u8; 8]) -> Result<u32, GroupFault> {
     let element = read_element::<G>(bytes, PLACE)?;
     Ok(G::element_number(element))

@@ -1,4 +1,4 @@
-// The constants of each group, and the calls that give the same.
+// The constants of each group, as generic code names them.
 use binary_polynomials::BinaryPolynomials;
 use group::group::Group;
 use residues::Residues;
@@ -6,11 +6,8 @@ use std::process::Abort;
 
 fn check_constants<G: Group>(rt: &impl Abort, number: u16, width: usize, scalar_width: usize) {
     assert_eq!(rt; G::NUMBER, number);
-    assert_eq!(rt; G::group_number(), number);
     assert_eq!(rt; G::W, width);
-    assert_eq!(rt; G::width(), width);
     assert_eq!(rt; G::S, scalar_width);
-    assert_eq!(rt; G::scalar_width(), scalar_width);
 }
 
 #[test]

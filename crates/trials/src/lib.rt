@@ -12,8 +12,6 @@ mod products;
 #[cfg(test)]
 mod reading;
 #[cfg(test)]
-mod sample;
-#[cfg(test)]
 mod scalars;
 #[cfg(test)]
 mod writing;

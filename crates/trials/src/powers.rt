@@ -5,34 +5,51 @@ use group::powers::power_of;
 use residues::Residues;
 use std::process::Abort;
 
+// The unit, the base, its square and so on without end: one product for each step.
+#[derive(Drop)]
+pub(super) struct Powers<G: Group> {
+    base: G::Element,
+    next: G::Element,
+}
+
+impl<G: Group> Powers<G> {
+    pub(super) fn of(base: G::Element) -> Powers<G> {
+        let next = G::unit();
+        Powers { base, next }
+    }
+}
+
+impl<G: Group> Iterator for Powers<G> {
+    type Item = G::Element;
+
+    fn next(&mut self) -> Option<G::Element> {
+        let power = self.next;
+        self.next = G::product(power, self.base);
+        Some(power)
+    }
+}
+
 fn check_small_powers<G: Group>(rt: &impl Abort, base: G::Element) {
-    let mut expected = G::unit();
-    for n in 0..64u32 {
-        assert!(rt;
-            G::equal(power_of::<G>(base, G::reduced(n)), expected),
-            "{}",
-            n
-        );
-        expected = G::product(expected, base);
+    for (n, expected) in (0..64).zip(Powers::<G>::of(base)) {
+        let power = power_of::<G>(base, G::reduced(n));
+        assert!(rt; power == expected, "{}", n);
     }
 }
 
 // The q-th power is the unit: the power of q - 1, times the base.
 fn check_last_power<G: Group>(rt: &impl Abort, base: G::Element) {
     let last = power_of::<G>(base, G::negate(G::reduced(1)));
-    assert!(rt; G::equal(G::product(last, base), G::unit()));
+    assert!(rt; G::product(last, base) == G::unit());
 }
 
 // Products with g come back to the unit at the q-th, and not before.
 fn check_round<G: Group>(rt: &impl Abort, q: u32) {
-    let mut element = G::g();
-    for n in 1..q {
-        assert!(rt; !G::equal(element, G::unit()), "{}", n);
-        element = G::product(element, G::g());
+    for (n, power) in (0..=q).zip(Powers::<G>::of(G::g())) {
+        assert_eq!(rt; power == G::unit(), n == 0 || n == q, "{}", n);
     }
-    assert!(rt; G::equal(element, G::unit()));
 }
 
+// Each base by itself: a loop over an array of elements of any group does not prove, as their size is not known.
 fn check_powers<G: Group>(rt: &impl Abort) {
     check_small_powers::<G>(rt, G::g());
     check_small_powers::<G>(rt, G::h());

@@ -1,8 +1,8 @@
 // Products against plain numbers, and against polynomials that are multiplied first and divided after.
-use super::sample::next_number;
 use binary_polynomials::BinaryPolynomials;
 use group::group::Group;
 use residues::Residues;
+use samples::numbers::Numbers;
 use std::test::Fail;
 
 fn product_of<G: Group>(a: u32, b: u32) -> Result<u32, Fail> {
@@ -32,14 +32,13 @@ fn remainder(polynomial: u64) -> u64 {
     rest
 }
 
+// Not one with the test of residues: what is drawn and what is expected would come as closures, longer than the loop.
 #[test]
 fn polynomial_products(rt: HostRuntime) -> Result<(), Fail> {
-    let mut n = 1;
-    for _k in 0..500 {
-        let a = n / 8 % 131071 + 1;
-        n = next_number(n);
-        let b = n / 8 % 131071 + 1;
-        n = next_number(n);
+    let mut numbers = Numbers::starting_at(1);
+    for _ in 0..500 {
+        let a = numbers.draw() / 8 % 131071 + 1;
+        let b = numbers.draw() / 8 % 131071 + 1;
         let expected = remainder(carryless(a.into(), b.into()));
         assert_eq!(rt;
             u64::from(product_of::<BinaryPolynomials>(a, b)?),
@@ -54,12 +53,10 @@ fn polynomial_products(rt: HostRuntime) -> Result<(), Fail> {
 // Squares are members, so each factor is one.
 #[test]
 fn residue_products(rt: HostRuntime) -> Result<(), Fail> {
-    let mut n = 1;
-    for _k in 0..500 {
-        let a = n / 8 % 2038 + 1;
-        n = next_number(n);
-        let b = n / 8 % 2038 + 1;
-        n = next_number(n);
+    let mut numbers = Numbers::starting_at(1);
+    for _ in 0..500 {
+        let a = numbers.draw() / 8 % 2038 + 1;
+        let b = numbers.draw() / 8 % 2038 + 1;
         let product = product_of::<Residues>(a * a % 2039, b * b % 2039)?;
         assert_eq!(rt; product, a * b % 2039 * a % 2039 * b % 2039, "{}", a);
     }

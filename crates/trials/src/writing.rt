@@ -1,44 +1,57 @@
 // What is written, and that it reads back.
+ghost use Rattle.std.specs.Prelude.{◌≤◌};
+
 use super::codes::{PLACE, coded, element_read, scalar_read};
-use super::sample::next_number;
+use super::powers::Powers;
 use binary_polynomials::BinaryPolynomials;
 use group::codes::{write_element, write_scalar};
+use group::fault::GroupFault;
 use group::group::Group;
 use residues::Residues;
+use samples::numbers::Numbers;
 use std::process::Abort;
 use std::test::Fail;
 
+// The code of the number stands amid the bytes, and reads back.
+fn check_code(
+    rt: &impl Abort,
+    bytes: &[u8; 8],
+    number: u32,
+    width: usize,
+    read: Result<u32, GroupFault>,
+)
+    requires { width ≤ 4 }
+{
+    assert_eq!(rt; *bytes, coded(number, width), "{}", number);
+    assert_eq!(rt; read, Ok(number));
+}
+
+// This and the next differ in the group's calls alone, and have the rest in common above.
 fn check_element<G: Group>(rt: &impl Abort, element: G::Element) {
     let number = G::element_number(element);
     let mut bytes = [0xAA; 8];
     write_element::<G>(element, &mut bytes, PLACE);
-    assert_eq!(rt; bytes, coded(number, G::width()), "{}", number);
-    assert_eq!(rt; element_read::<G>(&bytes), Ok(number));
+    check_code(rt, &bytes, number, G::W, element_read::<G>(&bytes));
 }
 
 fn check_scalar<G: Group>(rt: &impl Abort, scalar: G::Scalar) {
     let number = G::scalar_number(scalar);
     let mut bytes = [0xAA; 8];
     write_scalar::<G>(scalar, &mut bytes, PLACE);
-    assert_eq!(rt; bytes, coded(number, G::scalar_width()), "{}", number);
-    assert_eq!(rt; scalar_read::<G>(&bytes), Ok(number));
+    check_code(rt, &bytes, number, G::S, scalar_read::<G>(&bytes));
 }
 
 // The first powers of h, from the unit on.
 fn check_elements<G: Group>(rt: &impl Abort) {
-    let mut element = G::unit();
-    for _k in 0..300 {
+    for element in Powers::<G>::of(G::h()).take(300) {
         check_element::<G>(rt, element);
-        element = G::product(element, G::h());
     }
 }
 
 fn check_scalars<G: Group>(rt: &impl Abort) {
     check_scalar::<G>(rt, G::reduced(0));
     check_scalar::<G>(rt, G::negate(G::reduced(1)));
-    let mut n = 1;
-    for _k in 0..300 {
-        n = next_number(n);
+    for n in Numbers::from_seed(1).take(300) {
         check_scalar::<G>(rt, G::reduced(n));
     }
 }

@@ -10,18 +10,10 @@ use residues::Residues;
 use showing::{show_board, show_replay};
 use std::io;
 
-fn print_bytes(rt: HostRuntime, what: &str, bytes: &[u8]) -> io::Result<()> {
-    print!(rt; "{what}:")?;
-    for b in bytes {
-        print!(rt; " {b:02x}")?;
-    }
-    println!(rt; "")
-}
-
 fn main(rt: HostRuntime) -> io::Result<()> {
     instances_stand();
     calls_given();
-    show_board::<Residues>(rt, boards::RESIDUES)?;
-    show_board::<BinaryPolynomials>(rt, boards::BINARY_POLYNOMIALS)?;
-    show_replay::<Residues>(rt, boards::ALONE, boards::FILE)
+    show_board::<Residues>(&rt, boards::RESIDUES)?;
+    show_board::<BinaryPolynomials>(&rt, boards::BINARY_POLYNOMIALS)?;
+    show_replay::<Residues>(&rt, boards::ALONE, boards::FILE)
 }

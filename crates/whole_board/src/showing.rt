@@ -1,9 +1,4 @@
 // A whole board, record by record, from its Opening to the key.
-ghost use Rattle.std.specs.Prelude.{◌≡◌};
-ghost use Rattle.board_index.specs.Kept.{Kept};
-ghost use Rattle.board.specs.State.{state_of};
-
-use crate::print_bytes;
 use board::ceremony::Ceremony;
 use group::group::Group;
 use protocol::fault::CeremonyFault;
@@ -11,40 +6,46 @@ use protocol::row::SeatRow;
 use protocol::state::SeatState;
 use readings::key::write_key;
 use readings::seats::seat_list;
-use readings::words::word;
 use replay::replay::replay;
 use replay::replayed::Replayed;
-use std::io;
+use std::{fmt, io};
 
-// Prints the kind of a record and the seats that it names.
-fn print_record(rt: HostRuntime, bytes: &[u8]) -> io::Result<()> {
-    match bytes {
-        [_, _, 1, 0, ..] => print!(rt; "Opening"),
-        [_, _, 2, 0, writer, ..] => print!(rt; "Deal by {writer}"),
-        [_, _, 3, 0, writer, dealer, ..] => print!(rt; "Complaint by {writer} about {dealer}"),
-        [_, _, 4, 0, writer, seat, ..] => print!(rt; "Answer by {writer} to {seat}"),
-        [_, _, 5, 0, writer, ..] => print!(rt; "Exposure by {writer}"),
-        [_, _, 6, 0, writer, dealer, ..] => print!(rt; "Objection by {writer} to {dealer}"),
-        [_, _, 7, 0, writer, dealer, ..] => print!(rt; "Reveal by {writer} for {dealer}"),
-        [_, _, 8, 0, phase, ..] => print!(rt; "Close {phase}"),
-        _ => print!(rt; "no record of a board"),
+// A record's kind and the seats that it names. By its bytes, since what is no record of a board is told too.
+#[derive(Clone, Copy)]
+struct Named<'a>(&'a [u8]);
+
+impl fmt::Display for Named<'_> {
+    fn fmt<W: fmt::Write>(&self, f: &mut fmt::Formatter<W>) -> fmt::Result {
+        match self.0 {
+            [_, _, 1, 0, ..] => write!(f, "Opening"),
+            [_, _, 2, 0, writer, ..] => write!(f, "Deal by {writer}"),
+            [_, _, 3, 0, writer, dealer, ..] => write!(f, "Complaint by {writer} about {dealer}"),
+            [_, _, 4, 0, writer, seat, ..] => write!(f, "Answer by {writer} to {seat}"),
+            [_, _, 5, 0, writer, ..] => write!(f, "Exposure by {writer}"),
+            [_, _, 6, 0, writer, dealer, ..] => write!(f, "Objection by {writer} to {dealer}"),
+            [_, _, 7, 0, writer, dealer, ..] => write!(f, "Reveal by {writer} for {dealer}"),
+            [_, _, 8, 0, phase, ..] => write!(f, "Close {phase}"),
+            _ => write!(f, "no record of a board"),
+        }
     }
 }
 
-fn print_refusal(rt: HostRuntime, what: &str, fault: CeremonyFault) -> io::Result<()> {
-    let report = fault.report();
-    let number = report.number;
-    let place = report.place;
-    let reason = report.reason;
-    println!(rt; "{what}: refused with {number} at {place}, reason {reason}")
+// Bytes in hexadecimal digits, each behind a space. Each program has these lines; a crate for them would be longer.
+#[derive(Clone, Copy)]
+struct Hex<'a>(&'a [u8]);
+
+impl fmt::Display for Hex<'_> {
+    fn fmt<W: fmt::Write>(&self, f: &mut fmt::Formatter<W>) -> fmt::Result {
+        for byte in self.0 {
+            write!(f, " {byte:02x}")?;
+        }
+        Ok(())
+    }
 }
 
 // Opens the ceremony with an Opening, and posts any other record; tells how many equations were tested.
-fn give<G: Group>(ceremony: &mut Ceremony<'_, G>, bytes: &[u8]) -> Result<u8, CeremonyFault>
-    requires { Kept G.meaning (state_of ceremony.old) }
-    ensures kept { Kept G.meaning (state_of ceremony.new) }
-    ensures lender { ceremony.new.area.ghost_name ≡ ceremony.old.area.ghost_name }
-{
+// By the bytes, since what is no record is given too.
+fn give<G: Group>(ceremony: &mut Ceremony<'_, G>, bytes: &[u8]) -> Result<u8, CeremonyFault> {
     if let [_, _, 1, 0, ..] = bytes {
         ceremony.open(bytes)?;
         return Ok(0);
@@ -54,80 +55,63 @@ fn give<G: Group>(ceremony: &mut Ceremony<'_, G>, bytes: &[u8]) -> Result<u8, Ce
 
 // Gives the records one after another, and tells what became of each.
 fn give_all<G: Group>(
-    rt: HostRuntime,
+    rt: &impl Print,
     ceremony: &mut Ceremony<'_, G>,
     records: &[&[u8]],
-) -> io::Result<()>
-    requires { Kept G.meaning (state_of ceremony.old) }
-    ensures kept { Kept G.meaning (state_of ceremony.new) }
-    ensures lender { ceremony.new.area.ghost_name ≡ ceremony.old.area.ghost_name }
-{
+) -> io::Result<()> {
     for bytes in records {
-        print_record(rt, bytes)?;
+        let named = Named(bytes);
         match give(ceremony, bytes) {
-            Ok(equations) => println!(rt; ": taken, equations tested: {equations}")?,
-            Err(fault) => print_refusal(rt, "", fault)?,
+            Ok(equations) => println!(rt; "{named}: taken, equations tested: {equations}")?,
+            Err(fault) => println!(rt; "{named}: {}", fault.report())?,
         }
     }
     Ok(())
 }
 
-fn print_row(rt: HostRuntime, seat: usize, row: SeatRow) -> io::Result<()> {
-    let complaints = row.complaints;
-    print!(rt; "seat {seat}: ")?;
-    for b in word(row.state) {
-        let letter = *b as char;
-        print!(rt; "{letter}")?;
-    }
-    println!(rt; ", complaints: {complaints}")
-}
-
 // Prints the list of five seats.
-fn print_seats<G: Group>(rt: HostRuntime, ceremony: &Ceremony<'_, G>) -> io::Result<()>
-    requires { Kept G.meaning (state_of ceremony.now) }
-{
+fn print_seats<G: Group>(rt: &impl Print, ceremony: &Ceremony<'_, G>) -> io::Result<()> {
     let mut rows = [SeatRow {
         state: SeatState::Absent,
         complaints: 0,
     }; 5];
     if let Err(fault) = seat_list(ceremony, &mut rows) {
-        return print_refusal(rt, "seat list", fault);
+        return println!(rt; "seat list: {}", fault.report());
     }
-    for k in 0..rows.len() {
-        print_row(rt, k + 1, rows[k])?;
+    for (k, row) in rows.iter().enumerate() {
+        println!(rt;
+            "seat {}: {}, complaints: {}",
+            k + 1,
+            row.state,
+            row.complaints
+        )?;
     }
     Ok(())
 }
 
-fn print_key<G: Group>(rt: HostRuntime, ceremony: &Ceremony<'_, G>) -> io::Result<()>
-    requires { Kept G.meaning (state_of ceremony.now) }
-{
+fn print_key<G: Group>(rt: &impl Print, ceremony: &Ceremony<'_, G>) -> io::Result<()> {
+    // An element's code has four bytes at most. Outputs and areas are lent, so they are fixed arrays.
     let mut code = [0u8; 4];
     match write_key(ceremony, &mut code) {
-        Ok(length) => print_bytes(rt, "key", &code[0..length]),
-        Err(fault) => print_refusal(rt, "key", fault),
+        Ok(length) => println!(rt; "key:{}", Hex(&code[..length])),
+        Err(fault) => println!(rt; "key: {}", fault.report()),
     }
 }
 
 // Makes a ceremony, gives it the records of a board of five seats, and prints what can be read off it.
-pub(crate) fn show_board<G: Group>(rt: HostRuntime, records: &[&[u8]]) -> io::Result<()> {
-    let number = G::group_number();
-    println!(rt; "a board in group {number}")?;
+pub(crate) fn show_board<G: Group>(rt: &impl Print, records: &[&[u8]]) -> io::Result<()> {
+    println!(rt; "a board in group {}", G::NUMBER)?;
     // Five seats with the threshold 2 need 934 bytes in group 1 and 1094 in group 2.
     let mut area = [0u8; 1094];
     let mut ceremony = Ceremony::<G>::new(&mut area);
-    let given = give_all(rt, &mut ceremony, records);
-    let seats = print_seats(rt, &ceremony);
-    let key = print_key(rt, &ceremony);
-    ceremony.release();
-    given?;
-    seats?;
-    key
+    give_all(rt, &mut ceremony, records)?;
+    print_seats(rt, &ceremony)?;
+    print_key(rt, &ceremony)
 }
 
 // Opens a ceremony of one seat, replays a file into it, and prints what that came to.
 pub(crate) fn show_replay<G: Group>(
-    rt: HostRuntime,
+    rt: &impl Print,
     opening: &[u8],
     file: &[u8],
 ) -> io::Result<()> {
@@ -141,11 +125,9 @@ pub(crate) fn show_replay<G: Group>(
         equations,
         broken,
     } = replay(&mut ceremony, file);
-    let key = print_key(rt, &ceremony);
-    ceremony.release();
-    key?;
+    print_key(rt, &ceremony)?;
     if let Err(fault) = opened {
-        print_refusal(rt, "Opening", fault)?;
+        println!(rt; "Opening: {}", fault.report())?;
     }
     println!(rt; "replayed: taken {taken}, refused {refused}, equations tested: {equations}")?;
     match broken {

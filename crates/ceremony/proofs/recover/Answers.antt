@@ -7,6 +7,6 @@ interpolate-requires g c =
     let narrow : g.G.Group.meaning.s + g.G.Group.meaning.s ≤ 8 = omega (arith, g.G.Group.lawful.s_to) in
     let all = mul-le-mul few narrow in
     record {
-      seats = c.are_different_seats.ensures.sound c.if-not-are_different_seats.false;
+      seats = c.are_different_seats.ensures.0 c.if-not-are_different_seats.false;
       within = omega (arith, all, c.fill_shares.auto.shares);
     }

@@ -1,4 +1,4 @@
-use Rattle.std.proofs.Common.{◌≡◌, true, is_some, refl}
+use Rattle.std.proofs.Common.{refl}
 use Rattle.std.proofs.lemmas.Bool.{leb-true}
 use Rattle.group.specs.Monoid.{power}
 use Rattle.group.specs.Code.{code, code_at}
@@ -16,14 +16,6 @@ use Rattle.examples.specs.Examples.{first, made_1}
 use Rattle.examples.proofs.Trusting.{drew_up, wrote, all_allowed, faithful}
 use Rattle.examples.proofs.first_history_is_trusted.Goals as goal
 
-passes : all_allowed residues made_1 3 first ≡ true
-unfolding power code code_at codes_of sum_from decoded_from refused_from first_fault opening_fault phase_of starts phase_after posting_fault tests_of entry passes1 passes2 qualified answered contested count every some those lowest kind_with reveals all_revealed weighted weight factor inverse first_from seating_fault taking_fault writing_fault owing_fault same_bytes share_from to_complain_of to_answer to_object_to to_reveal owed_in owed after_call after drew_up wrote all_allowed
-passes = refl
-
-there : every 3 (λ i. is_some ((after residues made_1 first).custodians i)) ≡ true
-unfolding power code code_at codes_of sum_from decoded_from refused_from first_fault opening_fault phase_of starts phase_after posting_fault tests_of entry passes1 passes2 qualified answered contested count every some those lowest kind_with reveals all_revealed weighted weight factor inverse first_from seating_fault taking_fault writing_fault owing_fault same_bytes share_from to_complain_of to_answer to_object_to to_reveal owed_in owed after_call after drew_up wrote all_allowed
-there = refl
-
 pub returns : goal.returns
 unfolding power code code_at codes_of sum_from decoded_from refused_from first_fault opening_fault phase_of starts phase_after posting_fault tests_of entry passes1 passes2 qualified answered contested count every some those lowest kind_with reveals all_revealed weighted weight factor inverse first_from seating_fault taking_fault writing_fault owing_fault same_bytes share_from to_complain_of to_answer to_object_to to_reveal owed_in owed after_call after drew_up wrote all_allowed
-returns c = record { faithful = faithful residues made_1 3 first passes there; enough = leb-true _ _ refl }
+returns c = record { faithful = faithful residues made_1 3 first refl refl; enough = leb-true _ _ refl }

@@ -5,4 +5,4 @@ pub returns : goal.returns
 returns g c =
     let m = g.L.Linear in
     let lawful = g.G.Group.lawful in
-    interpolates m.member m.sum m.commutative g.G.Group.meaning.q lawful.q_above lawful.q_prime c.zero-zero.ensures.exponent
+    interpolates m.member m.sum m.commutative g.G.Group.meaning.q lawful.q_above lawful.q_prime g.met.L.Linear.exponent

@@ -3,10 +3,10 @@ use Rattle.board.proofs.opening.area_needed.Goals as goal
 
 pub overflow_add-result-3 : goal.overflow_add-result-3
 overflow_add-result-3 g c =
-    let w = c.width.result in
-    let s = c.scalar_width.result in
-    let wide : w ≤ 4 = omega (arith, c.width.ensures, g.G.Group.lawful.w_to) in
-    let narrow : s ≤ 4 = omega (arith, c.scalar_width.ensures, g.G.Group.lawful.s_to) in
+    let w = c.W.result in
+    let s = c.S.result in
+    let wide : w ≤ 4 = omega (arith, c.W.ensures, g.met.G.Group.width_is, g.G.Group.lawful.w_to) in
+    let narrow : s ≤ 4 = omega (arith, c.S.ensures, g.met.G.Group.scalar_width_is, g.G.Group.lawful.s_to) in
     let n : c.args.n ≤ 255 = omega arith in
     let t : c.args.t + 1 ≤ 256 = omega arith in
     let elements : (c.args.t + 1) * w ≤ 256 * 4 = mul-le-mul t wide in

@@ -1,38 +1,22 @@
-use Rattle.std.proofs.Common.{◌≡◌, ℕ, ◌+◌, ◌-◌, ◌^◌, ◌<◌, get_or, sym, ap, ◌∙◌, ap₂, arith, rules}
-use Rattle.group.specs.Code.{code_at}
-use Rattle.group.proofs.CodeSteps.{room, grown, read_none, read_more}
+use Rattle.std.proofs.Common.{◌≡◌, ℕ, ◌+◌, ◌-◌, drop, take, refl, ap, ◌∙◌, arith}
+use Rattle.std.specs.Slice.Iter.{iter_rest}
+use Rattle.group.proofs.CodeSteps.{read_none, read_room, read_byte, read_more}
 use Rattle.group.proofs.codes.read_code.Goals as goal
 
+pub loop-byte-init : goal.loop-byte-init
+loop-byte-init c =
+    let width : c.args.at + c.args.width - c.args.at ≡ c.args.width = omega arith in
+    read_none (ap (λ r. iter_rest r.iter) c.into_iter-byte-iterator.ensures.into_iter_gives ∙ ap iter_rest c.rev-byte-items.ensures.source ∙ c.iter.ensures.rest ∙ ap (λ (w : ℕ). take w (drop c.args.at c.args.bytes.now)) width)
+    c.requires.within refl
+
 pub overflow_mul-n : goal.overflow_mul-n
-overflow_mul-n c = let r = room c.loop-k.n (c.args.width - c.loop-k.k) (omega arith) c.loop-k.invariant.1 in omega arith
+overflow_mul-n c = let r = read_room c.loop-byte.invariant _ _ c.in-Some.ensures.steps c.requires.narrow in omega arith
 
-pub overflow_add-n-in-loop-k : goal.overflow_add-n-in-loop-k
-overflow_add-n-in-loop-k c =
-    let r = room c.loop-k.n (c.args.width - c.loop-k.k) (omega arith) c.loop-k.invariant.1 in
-    let b : get_or c.args.bytes.now (c.args.at + (c.loop-k.k - 1)) 0 < 256 = search rules in
-    omega arith
+pub overflow_add-n : goal.overflow_add-n
+overflow_add-n c =
+    let r = read_room c.loop-byte.invariant _ _ c.in-Some.ensures.steps c.requires.narrow in
+    let b = read_byte c.loop-byte.invariant _ _ c.in-Some.ensures.steps (λ i. let f = c.type_inv.bytes i in omega arith) in omega arith
 
-pub loop-k-init : goal.loop-k-init
-loop-k-init c =
-    let w = c.args.width in
-    let none : w - w ≡ 0 = omega arith in
-    let one : 256 ^ (w - w) ≡ 1 = ap (λ (x : ℕ). 256 ^ x) none in
-    (omega arith, omega arith, sym (read_none c.args.bytes.now (w - w) (c.args.at + w) none))
-
-pub loop-k-preserved : goal.loop-k-preserved
-loop-k-preserved c =
-    let k = c.loop-k.k in
-    let w = c.args.width in
-    let bytes = c.args.bytes.now in
-    let b : get_or bytes (c.args.at + (k - 1)) 0 < 256 = search rules in (
-      omega arith,
-      grown c.loop-k.n (get_or bytes (c.args.at + (k - 1)) 0) (w - k) (w - (k - 1)) (omega arith) c.loop-k.invariant.1 b,
-      read_more bytes c.loop-k.n (w - k) (w - (k - 1)) (c.args.at + (k - 1)) (c.args.at + k) (omega arith) (omega arith) c.loop-k.invariant.2,
-    )
-
-pub returns : goal.returns
-returns c =
-    let w = c.args.width in
-    let all : w - c.loop-k.k ≡ w = omega arith in
-    let start : c.args.at + c.loop-k.k ≡ c.args.at = omega arith in
-    c.loop-k.invariant.2 ∙ ap₂ (code_at c.args.bytes.now) all start
+pub loop-byte-preserved : goal.loop-byte-preserved
+loop-byte-preserved c =
+    read_more c.loop-byte.invariant _ _ c.in-Some.ensures.steps (read_byte c.loop-byte.invariant _ _ c.in-Some.ensures.steps (λ i. let f = c.type_inv.bytes i in omega arith))

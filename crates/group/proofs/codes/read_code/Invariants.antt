@@ -1,9 +1,6 @@
-use Rattle.std.proofs.Common.{◌≡◌, ◌+◌, ◌-◌, ◌^◌, ◌<◌, ◌≤◌}
-use Rattle.group.specs.Code.{code_at}
+use Rattle.std.specs.Slice.Iter.{iter_rest}
+use Rattle.group.proofs.CodeSteps.{Read}
 use Rattle.group.proofs.codes.read_code.Given as goal
 
-abbrev pub invariant-loop-k : goal.invariant-loop-k
-invariant-loop-k l = (l.k ≤ l.width) × (l.n < 256 ^ (l.width - l.k)) × (l.n ≡ code_at l.bytes (l.width - l.k) (l.at + l.k))
-
-abbrev pub decreases-loop-k : goal.decreases-loop-k
-decreases-loop-k l = l.k
+abbrev pub invariant-loop-byte : goal.invariant-loop-byte
+invariant-loop-byte l = Read l.bytes l.width l.at (iter_rest l.byte-iterator.iter) l.n

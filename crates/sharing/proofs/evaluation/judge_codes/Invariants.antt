@@ -5,5 +5,5 @@ use Rattle.sharing.proofs.evaluation.judge_codes.Given as goal
 abbrev pub invariant-loop-k : goal.invariant-loop-k
 invariant-loop-k g l =
     let m = g.L.Linear in
-    (l.place ≡ l.at + l._k * m.width)
-    × (refused_from (m.refusal l.codes) m.width l.at l.count ≡ refused_from (m.refusal l.codes) m.width l.place (l.count - l._k))
+    let refusal = m.refusal l.codes in
+    refused_from refusal m.width l.at l.count ≡ refused_from refusal m.width (l.at + l.k * m.width) (l.count - l.k)

@@ -28,7 +28,7 @@ loop-k-init g c =
     let m = g.L.Linear in
     let n = c.args.count in
     let none : n - n ≡ 0 = omega arith in
-    c.zero-value.ensures.value
+    c.zero-value.ensures
     ∙ sym (ap (λ vs. value_at m.sum vs c.args.seat) (decoded_none (m.decoded c.args.codes.now) m.width (c.args.at + n * m.width) (n - n) none) ∙ value_none m.sum c.args.seat)
 
 pub loop-k-preserved : goal.loop-k-preserved
@@ -48,7 +48,7 @@ loop-k-preserved g c =
     = c.known-coefficient.ensures ∙ ap (λ (x : ℕ). decoded (c.args.at + k * x)) c.code_width.ensures in
     let scaled_by : m.of c.scale.result ≡ scaled m.sum seat (value_at m.sum rest seat)
     = c.scale.ensures ∙ ap (λ (x : ℕ). scaled m.sum x value) c.reduced-j.ensures
-    ∙ scaled_mod m.commutative q seat value c.zero-value.ensures.exponent (m.inside c.loop-k.value)
+    ∙ scaled_mod m.commutative q seat value g.met.L.Linear.exponent (m.inside c.loop-k.value)
     ∙ ap (scaled m.sum seat) c.loop-k.invariant in
     let here = m.judged c.args.codes.now (c.args.at + k * w) (taken_at refusal w k c.args.at n inside c.requires.taken) in
     let later = decoded_members decoded w m.member refusal (m.judged c.args.codes.now) (c.args.at + c.loop-k.k * w) (n - c.loop-k.k) (taken_rest refusal w c.loop-k.k c.args.at n (omega arith) c.requires.taken) in

@@ -6,10 +6,10 @@ use Rattle.board.proofs.ceremony.Ceremony.are_objections_closed.Goals as goal
 
 pub returns-in-Revealing : goal.returns-in-Revealing
 returns-in-Revealing g c =
-    let h = objections_closed g.G.Group.meaning (board_of g.G.Group.meaning (state_of c.args.self.now)) c.args.self.now.phase c.requires.kept.phase in
+    let h = objections_closed g.G.Group.meaning (board_of g.G.Group.meaning (state_of c.args.self.now)) c.args.self.now.phase c.args.self.now.kept.phase in
     search rules
 
 pub returns-in_default : goal.returns-in_default
 returns-in_default g c =
-    let h = objections_closed g.G.Group.meaning (board_of g.G.Group.meaning (state_of c.args.self.now)) c.args.self.now.phase c.requires.kept.phase in
+    let h = objections_closed g.G.Group.meaning (board_of g.G.Group.meaning (state_of c.args.self.now)) c.args.self.now.phase c.args.self.now.kept.phase in
     search rules

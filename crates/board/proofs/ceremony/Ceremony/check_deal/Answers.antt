@@ -9,23 +9,23 @@ use Rattle.board.proofs.ceremony.Ceremony.check_deal.Goals as goal
 pub returns-in_err-writer : goal.returns-in_err-writer
 unfolding first_fault tests_of
 returns-in_err-writer g c =
-    let h = behind g.G.Group.meaning (state_of c.args.self.now) c.args.bytes.now Deal Dealing _ c.requires.kept c.requires.kind c.requires.phase refl (λ e. omega arith) refl in
+    let h = behind g.G.Group.meaning (state_of c.args.self.now) c.args.bytes.now Deal Dealing _ c.args.self.now.kept c.requires.kind c.requires.phase refl (λ e. omega arith) refl in
     search rules
 
 pub returns-then-has : goal.returns-then-has
 unfolding first_fault tests_of
 returns-then-has g c =
-    let h = behind g.G.Group.meaning (state_of c.args.self.now) c.args.bytes.now Deal Dealing _ c.requires.kept c.requires.kind c.requires.phase refl (λ e. omega arith) refl in
+    let h = behind g.G.Group.meaning (state_of c.args.self.now) c.args.bytes.now Deal Dealing _ c.args.self.now.kept c.requires.kind c.requires.phase refl (λ e. omega arith) refl in
     search rules
 
-pub returns-in_err-judge_elements : goal.returns-in_err-judge_elements
+pub returns-in_err-judge : goal.returns-in_err-judge
 unfolding first_fault tests_of
-returns-in_err-judge_elements g c =
-    let h = behind g.G.Group.meaning (state_of c.args.self.now) c.args.bytes.now Deal Dealing _ c.requires.kept c.requires.kind c.requires.phase refl (λ e. omega arith) refl in
+returns-in_err-judge g c =
+    let h = behind g.G.Group.meaning (state_of c.args.self.now) c.args.bytes.now Deal Dealing _ c.args.self.now.kept c.requires.kind c.requires.phase refl (λ e. omega arith) refl in
     search rules
 
 pub returns : goal.returns
 unfolding first_fault tests_of
 returns g c =
-    let h = behind g.G.Group.meaning (state_of c.args.self.now) c.args.bytes.now Deal Dealing _ c.requires.kept c.requires.kind c.requires.phase refl (λ e. omega arith) refl in
+    let h = behind g.G.Group.meaning (state_of c.args.self.now) c.args.bytes.now Deal Dealing _ c.args.self.now.kept c.requires.kind c.requires.phase refl (λ e. omega arith) refl in
     search rules

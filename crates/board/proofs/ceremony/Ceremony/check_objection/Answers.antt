@@ -9,41 +9,41 @@ use Rattle.board.proofs.ceremony.Ceremony.check_objection.Goals as goal
 pub returns-in_err-objector : goal.returns-in_err-objector
 unfolding first_fault tests_of
 returns-in_err-objector g c =
-    let h = behind g.G.Group.meaning (state_of c.args.self.now) c.args.bytes.now Objection Objecting _ c.requires.kept c.requires.kind c.requires.phase refl (λ e. omega arith) refl in
+    let h = behind g.G.Group.meaning (state_of c.args.self.now) c.args.bytes.now Objection Objecting _ c.args.self.now.kept c.requires.kind c.requires.phase refl (λ e. omega arith) refl in
     search rules
 
 pub returns-then-not-is_qualified : goal.returns-then-not-is_qualified
 unfolding first_fault tests_of
 returns-then-not-is_qualified g c =
-    let h = behind g.G.Group.meaning (state_of c.args.self.now) c.args.bytes.now Objection Objecting _ c.requires.kept c.requires.kind c.requires.phase refl (λ e. omega arith) refl in
+    let h = behind g.G.Group.meaning (state_of c.args.self.now) c.args.bytes.now Objection Objecting _ c.args.self.now.kept c.requires.kind c.requires.phase refl (λ e. omega arith) refl in
     search rules
 
 pub returns-then-has : goal.returns-then-has
 unfolding first_fault tests_of
 returns-then-has g c =
-    let h = behind g.G.Group.meaning (state_of c.args.self.now) c.args.bytes.now Objection Objecting _ c.requires.kept c.requires.kind c.requires.phase refl (λ e. omega arith) refl in
+    let h = behind g.G.Group.meaning (state_of c.args.self.now) c.args.bytes.now Objection Objecting _ c.args.self.now.kept c.requires.kind c.requires.phase refl (λ e. omega arith) refl in
     search rules
 
-pub returns-in_err-judge_share : goal.returns-in_err-judge_share
+pub returns-in_err-judge : goal.returns-in_err-judge
 unfolding first_fault tests_of
-returns-in_err-judge_share g c =
-    let h = behind g.G.Group.meaning (state_of c.args.self.now) c.args.bytes.now Objection Objecting _ c.requires.kept c.requires.kind c.requires.phase refl (λ e. omega arith) refl in
+returns-in_err-judge g c =
+    let h = behind g.G.Group.meaning (state_of c.args.self.now) c.args.bytes.now Objection Objecting _ c.args.self.now.kept c.requires.kind c.requires.phase refl (λ e. omega arith) refl in
     search rules
 
-pub returns-then-not-opens_in : goal.returns-then-not-opens_in
+pub returns-then-not-opens : goal.returns-then-not-opens
 unfolding first_fault tests_of
-returns-then-not-opens_in g c =
-    let h = behind g.G.Group.meaning (state_of c.args.self.now) c.args.bytes.now Objection Objecting _ c.requires.kept c.requires.kind c.requires.phase refl (λ e. omega arith) refl in
+returns-then-not-opens g c =
+    let h = behind g.G.Group.meaning (state_of c.args.self.now) c.args.bytes.now Objection Objecting _ c.args.self.now.kept c.requires.kind c.requires.phase refl (λ e. omega arith) refl in
     search rules
 
-pub returns-then-is_exposed_in : goal.returns-then-is_exposed_in
+pub returns-then-is_exposed : goal.returns-then-is_exposed
 unfolding first_fault tests_of
-returns-then-is_exposed_in g c =
-    let h = behind g.G.Group.meaning (state_of c.args.self.now) c.args.bytes.now Objection Objecting _ c.requires.kept c.requires.kind c.requires.phase refl (λ e. omega arith) refl in
+returns-then-is_exposed g c =
+    let h = behind g.G.Group.meaning (state_of c.args.self.now) c.args.bytes.now Objection Objecting _ c.args.self.now.kept c.requires.kind c.requires.phase refl (λ e. omega arith) refl in
     search rules
 
 pub returns : goal.returns
 unfolding first_fault tests_of
 returns g c =
-    let h = behind g.G.Group.meaning (state_of c.args.self.now) c.args.bytes.now Objection Objecting _ c.requires.kept c.requires.kind c.requires.phase refl (λ e. omega arith) refl in
+    let h = behind g.G.Group.meaning (state_of c.args.self.now) c.args.bytes.now Objection Objecting _ c.args.self.now.kept c.requires.kind c.requires.phase refl (λ e. omega arith) refl in
     search rules

@@ -9,41 +9,41 @@ use Rattle.board.proofs.ceremony.Ceremony.check_reveal.Goals as goal
 pub returns-in_err-writer : goal.returns-in_err-writer
 unfolding first_fault tests_of
 returns-in_err-writer g c =
-    let h = behind g.G.Group.meaning (state_of c.args.self.now) c.args.bytes.now Reveal Revealing _ c.requires.kept c.requires.kind c.requires.phase refl (λ e. omega arith) refl in
+    let h = behind g.G.Group.meaning (state_of c.args.self.now) c.args.bytes.now Reveal Revealing _ c.args.self.now.kept c.requires.kind c.requires.phase refl (λ e. omega arith) refl in
     search rules
 
 pub returns-in_err-dealer : goal.returns-in_err-dealer
 unfolding first_fault tests_of
 returns-in_err-dealer g c =
-    let h = behind g.G.Group.meaning (state_of c.args.self.now) c.args.bytes.now Reveal Revealing _ c.requires.kept c.requires.kind c.requires.phase refl (λ e. omega arith) refl in
+    let h = behind g.G.Group.meaning (state_of c.args.self.now) c.args.bytes.now Reveal Revealing _ c.args.self.now.kept c.requires.kind c.requires.phase refl (λ e. omega arith) refl in
     search rules
 
 pub returns-then-not-is_contested : goal.returns-then-not-is_contested
 unfolding first_fault tests_of
 returns-then-not-is_contested g c =
-    let h = behind g.G.Group.meaning (state_of c.args.self.now) c.args.bytes.now Reveal Revealing _ c.requires.kept c.requires.kind c.requires.phase refl (λ e. omega arith) refl in
+    let h = behind g.G.Group.meaning (state_of c.args.self.now) c.args.bytes.now Reveal Revealing _ c.args.self.now.kept c.requires.kind c.requires.phase refl (λ e. omega arith) refl in
     search rules
 
 pub returns-then-has : goal.returns-then-has
 unfolding first_fault tests_of
 returns-then-has g c =
-    let h = behind g.G.Group.meaning (state_of c.args.self.now) c.args.bytes.now Reveal Revealing _ c.requires.kept c.requires.kind c.requires.phase refl (λ e. omega arith) refl in
+    let h = behind g.G.Group.meaning (state_of c.args.self.now) c.args.bytes.now Reveal Revealing _ c.args.self.now.kept c.requires.kind c.requires.phase refl (λ e. omega arith) refl in
     search rules
 
-pub returns-in_err-judge_share : goal.returns-in_err-judge_share
+pub returns-in_err-judge : goal.returns-in_err-judge
 unfolding first_fault tests_of
-returns-in_err-judge_share g c =
-    let h = behind g.G.Group.meaning (state_of c.args.self.now) c.args.bytes.now Reveal Revealing _ c.requires.kept c.requires.kind c.requires.phase refl (λ e. omega arith) refl in
+returns-in_err-judge g c =
+    let h = behind g.G.Group.meaning (state_of c.args.self.now) c.args.bytes.now Reveal Revealing _ c.args.self.now.kept c.requires.kind c.requires.phase refl (λ e. omega arith) refl in
     search rules
 
-pub returns-then-not-opens_in : goal.returns-then-not-opens_in
+pub returns-then-not-opens : goal.returns-then-not-opens
 unfolding first_fault tests_of
-returns-then-not-opens_in g c =
-    let h = behind g.G.Group.meaning (state_of c.args.self.now) c.args.bytes.now Reveal Revealing _ c.requires.kept c.requires.kind c.requires.phase refl (λ e. omega arith) refl in
+returns-then-not-opens g c =
+    let h = behind g.G.Group.meaning (state_of c.args.self.now) c.args.bytes.now Reveal Revealing _ c.args.self.now.kept c.requires.kind c.requires.phase refl (λ e. omega arith) refl in
     search rules
 
 pub returns : goal.returns
 unfolding first_fault tests_of
 returns g c =
-    let h = behind g.G.Group.meaning (state_of c.args.self.now) c.args.bytes.now Reveal Revealing _ c.requires.kept c.requires.kind c.requires.phase refl (λ e. omega arith) refl in
+    let h = behind g.G.Group.meaning (state_of c.args.self.now) c.args.bytes.now Reveal Revealing _ c.args.self.now.kept c.requires.kind c.requires.phase refl (λ e. omega arith) refl in
     search rules

@@ -7,4 +7,4 @@ pub returns : goal.returns
 returns g c =
     c.is_some.ensures
     ∙ ap is_some c.find.ensures
-    ∙ has_found g.G.Group.meaning (state_of c.args.self.now) c.args.kind c.args.writer c.args.second c.requires.kept c.requires.kind
+    ∙ has_found g.G.Group.meaning (state_of c.args.self.now) c.args.kind c.args.writer c.args.second c.args.self.now.kept c.requires.kind

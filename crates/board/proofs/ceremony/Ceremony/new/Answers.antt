@@ -6,14 +6,12 @@ use Rattle.board_index.specs.Kept.{Kept}
 use Rattle.board_index.proofs.Opening.{fresh_kept}
 use Rattle.board.proofs.ceremony.Ceremony.new.Goals as goal
 
-pub returns : goal.returns
-unfolding records_after board_in
-returns g c =
+pub invariant_of-result : goal.invariant_of-result
+invariant_of-result g c =
     let m = g.G.Group.meaning in
     let made : List ℕ → List Bool → State = λ places truths. record { area = c.args.area.now; used = 0; n = 0; t = 0; phase = Unopened; places = places; truths = truths } in
-    record {
-      area = (refl, refl);
-      board = refl;
-      kept = subst (Kept m) (sym (ap₂ made c.empty.ensures.places c.empty.ensures.truths)) (fresh_kept m c.args.area.now);
-      lender = refl;
-    }
+    record { kept = subst (Kept m) (sym (ap₂ made c.empty.ensures.places c.empty.ensures.truths)) (fresh_kept m c.args.area.now) }
+
+pub returns : goal.returns
+unfolding records_after board_in
+returns g c = record { area = (refl, refl); board = refl; lender = refl }

@@ -1,13 +1,7 @@
-use Rattle.std.proofs.Common.{ℕ, ◌*◌, ◌%◌, ◌<◌, ap, ◌∙◌, ⊎_elim, mod-lt, mod-eq_of_lt, one-mul, arith}
+use Rattle.std.proofs.Common.{ℕ, ◌*◌, ◌%◌, ◌<◌, ap, ◌∙◌, ⊎_elim, mod-lt, arith}
 use Rattle.std.proofs.lemmas.Bool.{cases_eq}
 use Rattle.group.specs.ModularLaws.{inverse_turn}
 use Rattle.group.proofs.modular.Modular.inverse.Goals as goal
-
-pub loop-rest-init : goal.loop-rest-init
-loop-rest-init g c =
-    let a = c.args.self.value in
-    let below = c.args.self.below in
-    (omega arith, below, ap (λ (x : ℕ). (x * a) % g.row.Q) c.new-inverse.ensures ∙ ap (λ (x : ℕ). x % g.row.Q) (one-mul a) ∙ mod-eq_of_lt below)
 
 pub loop-rest-preserved : goal.loop-rest-preserved
 loop-rest-preserved g c =
@@ -18,4 +12,4 @@ loop-rest-preserved g c =
     let a = c.args.self.value in
     let rest = mod-lt q inv.0 in
     let pos : 0 < q % b = ⊎_elim (λ e. absurd (c.requires.no_divisor b c.loop-rest-test.true inv.1 e)) (λ ne. omega (arith, ne)) (cases_eq (q % b) 0) in
-    (pos, omega arith, ap (λ (x : ℕ). (x * a) % q) (c.multiply-inverse.ensures ∙ ap (λ (x : ℕ). (t * x) % q) c.new.ensures) ∙ inverse_turn q t b a inv.0 inv.1 inv.2)
+    (pos, omega arith, ap (λ (x : ℕ). (x * a) % q) (c.mul-inverse.ensures ∙ ap (λ (x : ℕ). (t * x) % q) c.new.ensures) ∙ inverse_turn q t b a inv.0 inv.1 inv.2)

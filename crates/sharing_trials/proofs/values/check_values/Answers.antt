@@ -1,5 +1,0 @@
-use Rattle.std.proofs.Common.{mul-le-mul, arith}
-use Rattle.sharing_trials.proofs.values.check_values.Goals as goal
-
-pub evaluate-requires : goal.evaluate-requires
-evaluate-requires g c = omega (arith, mul-le-mul c.requires.1 g.G.Group.lawful.s_to, c.write_numbers.auto.codes)
