@@ -95,6 +95,10 @@ impl<'a, G: Group> Ceremony<'a, G> {
     pub fn opens(&self, dealer: u8, seat: u8, share: Share<G>) -> bool
         ensures { result ≡ passes1 G.meaning (board self.now) dealer seat (G.scalar_of share.left.value, G.scalar_of share.right.value) }
     {
+        // No power is worked out in vain.
+        if !self.has(Kind::Deal, dealer, 0) {
+            return false;
+        }
         self.is_value_in(Kind::Deal, dealer, seat, commit::<G>(share))
     }
 
@@ -102,6 +106,9 @@ impl<'a, G: Group> Ceremony<'a, G> {
     pub fn is_exposed(&self, dealer: u8, seat: u8, share: Share<G>) -> bool
         ensures { result ≡ passes2 G.meaning (board self.now) dealer seat (G.scalar_of share.left.value) }
     {
+        if !self.has(Kind::Exposure, dealer, 0) {
+            return false;
+        }
         let power = power_of::<G>(G::g(), share.left.value);
         self.is_value_in(Kind::Exposure, dealer, seat, power)
     }

@@ -1,4 +1,6 @@
 // A script: records with what the ceremony answers to each, and what can be read off it in between.
+ghost use Rattle.std.specs.Prelude.{◌≡◌};
+
 use super::record::Record;
 use board::ceremony::Ceremony;
 use group::codes::write_element;
@@ -69,7 +71,9 @@ pub(super) fn check_refused<T: Drop>(
 }
 
 // Hands a record to the opening call or to the posting call.
-fn hand<G: Group>(ceremony: &mut Ceremony<'_, G>, record: Record) -> Result<u8, CeremonyFault> {
+fn hand<G: Group>(ceremony: &mut Ceremony<'_, G>, record: Record) -> Result<u8, CeremonyFault>
+    ensures { ceremony.new.area.ghost_name ≡ ceremony.old.area.ghost_name }
+{
     let bytes = record.bytes::<G>();
     match record {
         Record::Opening(_, _) | Record::Start(_) => ceremony.open(bytes.as_slice()).map(|()| 0),
@@ -162,7 +166,9 @@ fn take_step<G: Group>(
     rt: &impl Abort,
     ceremony: &mut Ceremony<'_, G>,
     step: Step,
-) -> Result<(), Fail> {
+) -> Result<(), Fail>
+    ensures { ceremony.new.area.ghost_name ≡ ceremony.old.area.ghost_name }
+{
     match step {
         Step::Taken(record, equations) => {
             assert_eq!(rt; hand(ceremony, record)?, equations);
@@ -189,7 +195,9 @@ pub(super) fn play<G: Group>(
     rt: &impl Abort,
     ceremony: &mut Ceremony<'_, G>,
     script: &[Step],
-) -> Result<(), Fail> {
+) -> Result<(), Fail>
+    ensures { ceremony.new.area.ghost_name ≡ ceremony.old.area.ghost_name }
+{
     for step in script {
         take_step(rt, ceremony, *step)?;
     }

@@ -1,4 +1,6 @@
 // A refusal changes nothing: two ceremonies are posted the same records, but for those that the first one refuses.
+ghost use Rattle.std.specs.Prelude.{◌≡◌};
+
 use super::record::{Record, RecordBytes};
 use super::script::{Step, play};
 use binary_polynomials::BinaryPolynomials;
@@ -166,7 +168,10 @@ fn post_both<G: Group>(
     second: &mut Ceremony<'_, G>,
     bytes: &[u8],
     seen: &mut Seen,
-) -> Result<(), Fail> {
+) -> Result<(), Fail>
+    ensures first { first.new.area.ghost_name ≡ first.old.area.ghost_name }
+    ensures second { second.new.area.ghost_name ≡ second.old.area.ghost_name }
+{
     seen.phases.add(first.phase().number());
     match first.post(bytes) {
         Ok(equations) => {
@@ -189,7 +194,10 @@ fn post_turns<G: Group>(
     second: &mut Ceremony<'_, G>,
     seed: u32,
     seen: &mut Seen,
-) -> Result<(), Fail> {
+) -> Result<(), Fail>
+    ensures first { first.new.area.ghost_name ≡ first.old.area.ghost_name }
+    ensures second { second.new.area.ghost_name ≡ second.old.area.ghost_name }
+{
     play(rt, first, OPENED)?;
     play(rt, second, OPENED)?;
     for (turn, random) in (0..96).zip(Numbers::starting_at(seed)) {

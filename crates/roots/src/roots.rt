@@ -11,7 +11,7 @@ use group::operation::raised;
 use std::alloc::AllocError;
 use std::marker::PhantomData;
 
-pub struct Roots<const Q: u32, C>(PhantomData<C>);
+pub struct Roots<const Q: u32, C>(pub PhantomData<C>);
 
 // A candidate whose Q-th power is the unit.
 #[derive_where(PartialEq, Eq)]

@@ -1,8 +1,9 @@
 -- Walking over seats: what the seats still to come say, and what they add.
-use Rattle.std.proofs.Common.{◌≡◌, ℕ, zero, suc, ◌+◌, ◌*◌, ◌%◌, ◌<◌, ◌≤◌, Bool, true, false, eqb, ◌||◌, List, [], ◌∷◌, None, Option, length, get_or, drop, sym, refl, ap, ◌∙◌, ap₂, ⊎_elim, mod-lt, arith, drop-cons}
+use Rattle.std.proofs.Common.{◌≡◌, ℕ, zero, suc, ◌+◌, ◌*◌, ◌%◌, ◌<◌, ◌≤◌, Bool, true, false, eqb, ◌||◌, List, [], ◌∷◌, ◌++◌, None, Option, length, get_or, drop, set, replicate, subst, sym, refl, ap, ◌∙◌, ap₂, ⊎_elim, mod-lt, arith, drop-cons}
 use Rattle.std.proofs.lemmas.Bool.{cases_Bool, eqb-true, eq-eqb, false≢true}
-use Rattle.std.proofs.lemmas.List.{drop_all}
-use Rattle.std.specs.List.{AllByRecursion, list_any}
+use Rattle.std.proofs.lemmas.List.{append-nil, drop_all, length-set, get_or-set_other, get_or-replicate, length-replicate, nil_from_length}
+use Rattle.std.proofs.lemmas.Grind.{get_or-set_at}
+use Rattle.std.specs.List.{AllByRecursion, list_any, push}
 use Rattle.group.specs.declared.fault.GroupFault.{GroupFault}
 use Rattle.group.specs.Monoid.{Monoid, Commutative}
 use Rattle.group.specs.ModularLaws.{mod_mul_assoc}
@@ -35,6 +36,58 @@ all_differ m (l ∷ ms) h =
     (λ (e : eqb l m ≡ false).
     ((λ same. false≢true (sym e ∙ eq-eqb l m (sym same))), all_differ m ms (sym (ap (λ (b : Bool). b || list_any (λ x. eqb x m) ms) e) ∙ h)))
     (cases_Bool (eqb l m))
+
+-- Going over seats from the end: those behind the ones that are still to come are different, and `stood` says which numbers are among them.
+pub record Behind (seats rest : List ℕ) (stood : List Bool) : Type 0 where
+  pub behind : List ℕ
+  pub split : rest ++ behind ≡ seats
+  pub differ : Seats behind
+  pub rows : length stood ≡ 33
+  pub noted : (l : ℕ) → l < 33 → get_or stood l false ≡ list_any (λ x. eqb x l) behind
+
+pushed : (next behind : List ℕ) (m : ℕ) → push next m ++ behind ≡ next ++ m ∷ behind
+pushed [] behind m = refl
+pushed (x ∷ next) behind m = ap (λ (ls : List ℕ). x ∷ ls) (pushed next behind m)
+
+later_seats : (front behind : List ℕ) → Seats (front ++ behind) → Seats behind
+later_seats [] behind h = h
+later_seats (x ∷ front) behind h = later_seats front behind h.3
+
+pub none_behind : (seats rest : List ℕ) (stood : List Bool) → rest ≡ seats → stood ≡ replicate 33 false → Behind seats rest stood
+none_behind seats rest stood e f = record {
+  behind = [];
+  split = append-nil rest ∙ e;
+  differ = tt;
+  rows = ap (length {A = Bool}) f ∙ length-replicate 33 false;
+  noted = λ l h. ap (λ (bs : List Bool). get_or bs l false) f ∙ get_or-replicate 33 l false false h;
+}
+
+module _ {seats rest : List ℕ} {stood : List Bool} (b : Behind seats rest stood) (next : List ℕ) (m : ℕ) (e : rest ≡ push next m) where
+  pub one_behind : 1 ≤ m → m ≤ 32 → get_or stood m false ≡ false → Behind seats next (set stood m true)
+  one_behind low high new = record {
+    behind = m ∷ b.behind;
+    split = sym (pushed next b.behind m) ∙ ap (λ (ls : List ℕ). ls ++ b.behind) (sym e) ∙ b.split;
+    differ = (low, high, all_differ m b.behind (sym (b.noted m (omega arith)) ∙ new), b.differ);
+    rows = length-set stood m true ∙ b.rows;
+    noted = λ l h.
+        ⊎_elim
+        (λ (is : eqb m l ≡ true).
+        let same : l ≡ m = sym (eqb-true m l is) in
+        get_or-set_at stood m l true false same (omega (arith, b.rows, high)) ∙ sym (ap (λ (x : Bool). x || list_any (λ x. eqb x l) b.behind) is))
+        (λ (is : eqb m l ≡ false).
+        get_or-set_other stood m l true false (λ same. false≢true (sym is ∙ eq-eqb m l (sym same)))
+        ∙ b.noted l h
+        ∙ sym (ap (λ (x : Bool). x || list_any (λ x. eqb x l) b.behind) is))
+        (cases_Bool (eqb m l));
+  }
+
+  pub here_behind : Seats seats → (1 ≤ m) × (m ≤ 32) × (m ≤ 32 → get_or stood m false ≡ false)
+  here_behind all =
+      let here = later_seats next (m ∷ b.behind) (subst Seats (sym b.split ∙ ap (λ (ls : List ℕ). ls ++ b.behind) e ∙ pushed next b.behind m) all) in
+      (here.0, here.1, λ high. b.noted m (omega (arith, high)) ∙ none_equal m b.behind here.2)
+
+pub all_behind : {seats rest : List ℕ} {stood : List Bool} → Behind seats rest stood → length rest ≡ 0 → Seats seats
+all_behind {seats} {rest} b none = subst Seats (ap (λ (ls : List ℕ). ls ++ b.behind) (sym (nil_from_length rest none)) ∙ b.split) b.differ
 
 -- the seats from k on
 pub from_here : (seats : List ℕ) (k : ℕ) → k < length seats → drop k seats ≡ get_or seats k 0 ∷ drop (k + 1) seats

@@ -5,12 +5,13 @@ ghost use Rattle.sharing.specs.Interpolation.{Seats};
 pub fn are_different_seats(seats: &[u8]) -> bool
     ensures { IsTrue result ↔ Seats seats.now }
 {
-    let mut rest = seats;
-    while let Some((m, later)) = rest.split_first() {
-        if *m < 1 || *m > 32 || later.contains(m) {
+    // Whether a seat stood behind: 33 seats show one that did, however long the list is.
+    let mut stood = [false; 33];
+    for m in seats.iter().rev() {
+        if *m < 1 || *m > 32 || stood[*m as usize] {
             return false;
         }
-        rest = later;
+        stood[*m as usize] = true;
     }
     true
 }

@@ -1,4 +1,6 @@
 // A whole board, record by record, from its Opening to the key.
+ghost use Rattle.std.specs.Prelude.{◌≡◌};
+
 use board::ceremony::Ceremony;
 use group::group::Group;
 use protocol::fault::CeremonyFault;
@@ -45,7 +47,9 @@ impl fmt::Display for Hex<'_> {
 
 // Opens the ceremony with an Opening, and posts any other record; tells how many equations were tested.
 // By the bytes, since what is no record is given too.
-fn give<G: Group>(ceremony: &mut Ceremony<'_, G>, bytes: &[u8]) -> Result<u8, CeremonyFault> {
+fn give<G: Group>(ceremony: &mut Ceremony<'_, G>, bytes: &[u8]) -> Result<u8, CeremonyFault>
+    ensures { ceremony.new.area.ghost_name ≡ ceremony.old.area.ghost_name }
+{
     if let [_, _, 1, 0, ..] = bytes {
         ceremony.open(bytes)?;
         return Ok(0);
@@ -58,12 +62,15 @@ fn give_all<G: Group>(
     rt: &impl Print,
     ceremony: &mut Ceremony<'_, G>,
     records: &[&[u8]],
-) -> io::Result<()> {
+) -> io::Result<()>
+    ensures { ceremony.new.area.ghost_name ≡ ceremony.old.area.ghost_name }
+{
     for bytes in records {
-        let named = Named(bytes);
+        // The name first: a record is given once it is told.
+        print!(rt; "{}", Named(bytes))?;
         match give(ceremony, bytes) {
-            Ok(equations) => println!(rt; "{named}: taken, equations tested: {equations}")?,
-            Err(fault) => println!(rt; "{named}: {}", fault.report())?,
+            Ok(equations) => println!(rt; ": taken, equations tested: {equations}")?,
+            Err(fault) => println!(rt; ": {}", fault.report())?,
         }
     }
     Ok(())
@@ -104,9 +111,13 @@ pub(crate) fn show_board<G: Group>(rt: &impl Print, records: &[&[u8]]) -> io::Re
     // Five seats with the threshold 2 need 934 bytes in group 1 and 1094 in group 2.
     let mut area = [0u8; 1094];
     let mut ceremony = Ceremony::<G>::new(&mut area);
-    give_all(rt, &mut ceremony, records)?;
-    print_seats(rt, &ceremony)?;
-    print_key(rt, &ceremony)
+    // Where a write fails, what comes behind it is told all the same.
+    let given = give_all(rt, &mut ceremony, records);
+    let seats = print_seats(rt, &ceremony);
+    let key = print_key(rt, &ceremony);
+    given?;
+    seats?;
+    key
 }
 
 // Opens a ceremony of one seat, replays a file into it, and prints what that came to.

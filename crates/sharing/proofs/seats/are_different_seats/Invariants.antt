@@ -1,9 +1,6 @@
-use Rattle.std.proofs.Common.{length}
-use Rattle.sharing.specs.Interpolation.{Seats}
+use Rattle.std.specs.Slice.Iter.{iter_rest}
+use Rattle.sharing.proofs.SeatWalk.{Behind}
 use Rattle.sharing.proofs.seats.are_different_seats.Given as goal
 
 abbrev pub invariant-loop-m : goal.invariant-loop-m
-invariant-loop-m l = record { back : Seats l.rest → Seats l.fn.seats; forth : Seats l.fn.seats → Seats l.rest }
-
-abbrev pub decreases-loop-m : goal.decreases-loop-m
-decreases-loop-m l = length l.rest
+invariant-loop-m l = Behind l.seats (iter_rest l.m-iterator.iter) l.stood
